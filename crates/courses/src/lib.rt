@@ -5,8 +5,8 @@
 //! end (`telling`), and of `check` its answer (`check_answer`).
 //!
 //! What a command makes of its bytes stands in the crate of the command, with its contract, and that of
-//! `check`'s answer here. No contract can say what a file holds, so those that open one, hand it on or tell of
-//! it have none: they are proved not to panic, and to end.
+//! `check`'s answer here. No contract can say what a file holds, so functions that open one, hand it on or
+//! tell of it have none: they are proved not to panic, and to end.
 #![tactic(auto)]
 
 mod assembling;

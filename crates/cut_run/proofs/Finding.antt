@@ -18,11 +18,12 @@ use Rattle.pcap_io.specs.declared.recording.Ending.{Ending}
 use Rattle.pcap_io.specs.declared.recording.Stage.TheVariants.{Going, Ended}
 use Rattle.pcap_io.specs.Told.{StaysTold}
 use Rattle.pcap_io.specs.declared.told.Told.{Told}
+use Rattle.run_fault.specs.Recording.{most_frames}
 use Rattle.run_fault.proofs.Recording.{known_after, tells_on}
 use Rattle.pcap_io.proofs.Parse.{reads_more}
 use Rattle.cut_run.specs.Places.{IsAbove, IsBelow, place_of}
 use Rattle.cut_run.specs.Passed.{AreKept, Forgets, KeepsLater, Takes, passed_at}
-use Rattle.cut_run.specs.Finder.{FailsToAllocate, Finding, Finds, FindsNone, HasRead, HasReadFrames, IsFindFault, IsOnWay, Opening, StandsAt, any_late, fault_of, most_frames}
+use Rattle.cut_run.specs.Finder.{FailsToAllocate, Finding, Finds, FindsNone, HasRead, HasReadFrames, IsFindFault, IsOnWay, Opening, StandsAt, any_late, fault_of}
 use Rattle.cut_run.specs.declared.place.SearchPlace.{SearchPlace}
 use Rattle.cut_run.specs.declared.finder.FindFault.TheVariants as faults
 use Rattle.cut_run.proofs.FinderOrder.{not_itself, same_place}

@@ -6,7 +6,7 @@ use Rattle.afdx_frame.specs.Frame.{Frame}
 use Rattle.afdx_frame.specs.declared.key.Key.{Key}
 use Rattle.afdx_frame.specs.declared.key.Network.{Network}
 use Rattle.afdx_frame.specs.declared.key.Network.TheVariants.{A, B}
-use Rattle.cut_run.specs.Finder.{Finding, Finds, HasRead, IsFindFault, LacksFrame as FinderLacks, Opening, StandsAt, any_late, finding_of, most_frames}
+use Rattle.cut_run.specs.Finder.{Finding, Finds, HasRead, IsFindFault, LacksFrame as FinderLacks, Opening, StandsAt, any_late, finding_of}
 use Rattle.cut_run.specs.Places.{place_at}
 use Rattle.cut_run.specs.declared.finder.FindFault.{FindFault}
 use Rattle.cut_run.specs.declared.finder.FindFault.TheVariants as find
@@ -20,7 +20,7 @@ use Rattle.pcap_io.specs.declared.recording.Stage.TheVariants.{Going, Ended}
 use Rattle.pcap_io.specs.declared.told.Told.{Told}
 use Rattle.run_fault.specs.Device.{SourceMembers, SourceView}
 use Rattle.run_fault.specs.Fault.{FailsWhere}
-use Rattle.run_fault.specs.Recording.{IsRecording}
+use Rattle.run_fault.specs.Recording.{IsRecording, most_frames}
 use Rattle.run_fault.proofs.Recording.{complete}
 use Rattle.cut_run.specs.Faults.{RecordingSource, names}
 use Rattle.cut_run.specs.Lines.{ComesLater, IsFrameOf, key_of_line, last_key, side}

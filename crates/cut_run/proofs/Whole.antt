@@ -7,7 +7,7 @@ use Rattle.afdx_frame.specs.Frame.{Frame}
 use Rattle.afdx_frame.specs.declared.bounds.TheConstants.{MAX_SNAPLEN}
 use Rattle.afdx_frame.specs.declared.key.Network.{Network}
 use Rattle.afdx_frame.specs.declared.key.Network.TheVariants.{A, B}
-use Rattle.cut_run.specs.Finder.{finder_source, finding_of}
+use Rattle.cut_run.specs.Finder.{any_late, finder_source, finding_of}
 use Rattle.cut_run.specs.declared.finder.FrameFinder.{FrameFinder}
 use Rattle.ledger_text.specs.Ledger.{HasReadLines}
 use Rattle.ledger_text.specs.Lines.{unread_of}
@@ -19,7 +19,7 @@ use Rattle.packet_format.specs.Packets.{Format, head_by}
 use Rattle.packet_format.specs.Writer.{sink_of}
 use Rattle.run_fault.specs.Device.{SinkMembers, SourceMembers, SourceView, source_at}
 use Rattle.run_fault.specs.Recording.{IsReadPart}
-use Rattle.cut_run.specs.Cut.{CutDevices, IsCutRun, any_lateness, devices_at}
+use Rattle.cut_run.specs.Cut.{CutDevices, IsCutRun, devices_at}
 use Rattle.cut_run.specs.Cutting.{EndsCut, StopsCut}
 use Rattle.cut_run.specs.Lines.{Choice, cut_capture}
 use Rattle.cut_run.specs.Naming.{ReadsPart, opening_at}
@@ -52,13 +52,13 @@ reads_nothing {L = L} l source reader same none (stage, number, sound) = record 
 pub part_of : {S : Type 0} (s : SourceMembers S) (network : Network) (before : SourceView) (frames : List Frame) (finder : FrameFinder S)
     → length (finding_of s finder).unread ≤ MAX_SNAPLEN
     → ReadsPart (opening_at network before) frames (finding_of s finder)
-    → IsReadPart network any_lateness before (source_at s (finder_source finder)) frames
+    → IsReadPart network any_late before (source_at s (finder_source finder)) frames
 part_of s network before frames finder few part = record {
   position = part.position;
   left = part.left;
   rest = (finding_of s finder).reading.remaining;
   ahead = (finding_of s finder).unread;
-  read = record { layout = part.read.layout; opened = part.read.opened; opens = part.read.opens; reads = part.read.reads; bounded = part.read.bounded };
+  read = part.read;
   gone = part.gone;
   unread = (few, refl);
 }

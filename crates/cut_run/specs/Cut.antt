@@ -1,5 +1,5 @@
 -- What a cut leaves, and why it was aborted (this project's profile).
-use Rattle.std.specs.Prelude.{◌≡◌, ◌⊎◌, ℕ, true, ◌+◌, ◌-◌, ◌^◌, ◌<◌, ◌≤◌, List, ◌++◌, length, take, Option, Some, None, Result, Ok, Err}
+use Rattle.std.specs.Prelude.{◌≡◌, ◌⊎◌, ℕ, true, ◌+◌, ◌<◌, ◌≤◌, List, ◌++◌, length, take, Option, Some, None, Result, Ok, Err}
 use Rattle.std.specs.Io.KnownBytes.{Appends, Consumes}
 use Rattle.std.specs.List.{zip}
 use Rattle.afdx_frame.specs.Frame.{Frame}
@@ -22,6 +22,7 @@ use Rattle.pcap_io.specs.Device.{AppendsPrefix}
 use Rattle.run_fault.specs.Device.{SinkMembers, SinkView, SourceMembers, SourceView, sink_at, source_at}
 use Rattle.run_fault.specs.Fault.{FailsWhere}
 use Rattle.run_fault.specs.Recording.{FailsAtHeader, HasHeaderFault, IsReadPart, WasOpened}
+use Rattle.cut_run.specs.Finder.{any_late}
 use Rattle.cut_run.specs.Faults.{LedgerSource, OutputSink, RecordingSource, names}
 use Rattle.cut_run.specs.Lines.{AreFramesOf, AreSpread, Choice, ComesLater, IsFrameOf, IsTakenNext, Rise, TakesOf, is_read, last_key, read_lines, side, cut_capture, line_packet}
 use Rattle.cut_run.specs.Naming.{LacksFrame, view_of}
@@ -41,10 +42,6 @@ pub record CutDevices : Type 0 where
 abbrev pub devices_at : {L S T W : Type 0} → SourceMembers L → SourceMembers S → SourceMembers T → SinkMembers W → L → S → T → W → CutDevices
 devices_at l s t w ledger a b output = record { ledger = source_at l ledger; a = source_at s a; b = source_at t b; output = sink_at w output }
 
--- any order of timestamps is read
-abbrev pub any_lateness : ℕ
-any_lateness = 2 ^ 64 - 1
-
 -- where a reader of a ledger stands after so many lines
 abbrev pub place_at : LedgerStage → ℕ → Option (List ℕ) → Reading
 place_at stage number left = record { stage = stage; number = number; left = left; failures = 0 }
@@ -60,8 +57,8 @@ stop_of (ending.Incomplete stop) = Some stop
 -- over: they come later one by one, and the frames stand as they were recorded.
 pub record HasFound (skips : Option Network) (before after : CutDevices) (rs : List ReadLine) (stage : LedgerStage) (left : Option (List ℕ)) (frames_a frames_b frames : List Frame) : Type 0 where
   pub lines : ReadsLines stages.Head before.ledger.remaining rs stage left
-  pub read_a : IsReadPart A any_lateness before.a after.a frames_a
-  pub read_b : IsReadPart B any_lateness before.b after.b frames_b
+  pub read_a : IsReadPart A any_late before.a after.a frames_a
+  pub read_b : IsReadPart B any_late before.b after.b frames_b
   pub found : List Frame
   pub rise : Rise None (read_lines skips (frame_lines rs))
   pub named : AreFramesOf frames_a frames_b (read_lines skips (frame_lines rs)) found

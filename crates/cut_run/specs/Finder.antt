@@ -4,9 +4,8 @@ use Rattle.std.specs.BTreeMap.{BTreeMap}
 use Rattle.afdx_frame.specs.Frame.{Frame}
 use Rattle.afdx_frame.specs.declared.key.Network.{Network}
 use Rattle.pcap_io.specs.Device.{CountsFailure}
-use Rattle.pcap_io.specs.Position.{EndLeaves, LacksBytes, LacksMemory, Opens, Reading, Reads, TakesAPacket, ending_here, start_at}
+use Rattle.pcap_io.specs.Position.{EndLeaves, LacksBytes, LacksMemory, Reading, TakesAPacket, ending_here}
 use Rattle.pcap_io.specs.Reader.{reading_of, unread_of, source_of}
-use Rattle.pcap_io.specs.declared.layout.Layout.{Layout}
 use Rattle.pcap_io.specs.declared.position.Position.{Position}
 use Rattle.pcap_io.specs.declared.recording.Ending.{Ending}
 use Rattle.pcap_io.specs.declared.recording.Stage.TheVariants.{Ended}
@@ -15,16 +14,13 @@ use Rattle.pcap_io.specs.declared.item.ReadFault.TheVariants as reads
 use Rattle.pcap_io.specs.Told.{StaysTold}
 use Rattle.pcap_io.specs.declared.told.Told.{Told}
 use Rattle.run_fault.specs.Device.{SourceMembers}
+use Rattle.run_fault.specs.Recording.{HasReadTap}
 use Rattle.cut_run.specs.Places.{IsBelow, place_of}
 use Rattle.cut_run.specs.Passed.{AreKept}
 use Rattle.cut_run.specs.declared.place.SearchPlace.{SearchPlace}
 use Rattle.cut_run.specs.declared.finder.FrameFinder.{FrameFinder}
 use Rattle.cut_run.specs.declared.finder.FindFault.{FindFault}
 use Rattle.cut_run.specs.declared.finder.FindFault.TheVariants as faults
-
--- 2^32 frames are read at the most
-abbrev pub most_frames : ℕ
-most_frames = 2 ^ 32
 
 -- a timestamp may come as late as it likes
 abbrev pub any_late : ℕ
@@ -68,12 +64,8 @@ finder_source finder = source_of finder.reader
 
 -- The bytes are a file header and then the packets of these frames, numbered from 0 on. A reader stands at `position` after them, and `left`
 -- follows.
-pub record HasReadFrames (o : Opening) (frames : List Frame) (position : Position) (left : Option (List ℕ)) : Type 0 where
-  pub layout : Layout
-  pub opened : Option (List ℕ)
-  pub opens : Opens o.told o.remaining opened layout
-  pub reads : Reads (start_at o.network layout most_frames any_late) opened frames position left
-  pub bounded : position.count ≤ most_frames
+abbrev pub HasReadFrames : Opening → List Frame → Position → Option (List ℕ) → Type 0
+HasReadFrames o frames position left = HasReadTap o.network any_late o.told o.remaining frames position left
 
 -- the recording ends here, with what its source tells, and its reader has found the ending
 pub record HasEnded (position : Position) (told : Told) (left : Option (List ℕ)) (ending : Ending) (now : Reading) : Type 0 where

@@ -1,10 +1,10 @@
 -- Both recordings as lines of a ledger have named their frames (this project's profile).
-use Rattle.std.specs.Prelude.{◌≡◌, ◌≢◌, ◌⊎◌, ℕ, ◌-◌, ◌^◌, ◌≤◌, List, [], ◌∷◌, ◌++◌, length, slice_get, Option, None, Some, IfSome, ⊤}
+use Rattle.std.specs.Prelude.{◌≡◌, ◌≢◌, ◌⊎◌, ℕ, ◌≤◌, List, [], ◌∷◌, ◌++◌, length, slice_get, Option, None, Some, IfSome, ⊤}
 use Rattle.afdx_frame.specs.Frame.{Frame}
 use Rattle.afdx_frame.specs.declared.key.Key.{Key}
 use Rattle.afdx_frame.specs.declared.key.Network.{Network}
 use Rattle.afdx_frame.specs.declared.key.Network.TheVariants.{A, B}
-use Rattle.cut_run.specs.Finder.{Finding, HasRead, HasReadFrames, Opening, finding_of}
+use Rattle.cut_run.specs.Finder.{Finding, HasRead, HasReadFrames, Opening, any_late, finding_of}
 use Rattle.cut_run.specs.declared.finder.FindFault.{FindFault}
 use Rattle.cut_run.specs.declared.finder.FindFault.TheVariants as find
 use Rattle.cut_run.specs.declared.place.SearchPlace.{SearchPlace}
@@ -72,7 +72,7 @@ pub record ReadsPart (o : Opening) (frames : List Frame) (now : Finding) : Type 
 abbrev pub LacksFrame : SourceView → List Frame → FrameLine → Type 0
 LacksFrame view frames v =
     ((f : Frame) × (slice_get frames v.number ≡ Some f) × (f.stamp ≢ v.stamp.0))
-    ⊎ ((length frames ≤ v.number) × ((ending : Ending) × IfSome view.remaining (λ bytes. IsRecording v.network (2 ^ 64 - 1) view.told bytes frames ending)))
+    ⊎ ((length frames ≤ v.number) × ((ending : Ending) × IfSome view.remaining (λ bytes. IsRecording v.network any_late view.told bytes frames ending)))
 
 abbrev pub view_of : Network → SourceView → SourceView → SourceView
 view_of A a b = a

@@ -5,7 +5,7 @@ use Rattle.afdx_frame.specs.Frame.{Frame}
 use Rattle.afdx_frame.specs.declared.bounds.TheConstants.{MAX_SNAPLEN}
 use Rattle.afdx_frame.specs.declared.key.Network.{Network}
 use Rattle.afdx_frame.specs.declared.key.Network.TheVariants.{A, B}
-use Rattle.cut_run.specs.Finder.{finder_source, finding_of}
+use Rattle.cut_run.specs.Finder.{any_late, finder_source, finding_of}
 use Rattle.ledger_text.specs.Ledger.{EndsAt, HasReadLines, ReadLine, ReadsLines, TakesLine, frame_lines}
 use Rattle.ledger_text.specs.Lines.{unread_of}
 use Rattle.ledger_text.specs.Reader.{source_of}
@@ -21,7 +21,7 @@ use Rattle.pcap_io.specs.Device.{Writes}
 use Rattle.run_fault.specs.Device.{SinkMembers, SinkView, SourceMembers, SourceView, sink_at, source_at}
 use Rattle.run_fault.specs.Fault.{FailsWhere}
 use Rattle.run_fault.specs.Recording.{IsReadPart}
-use Rattle.cut_run.specs.Cut.{CutDevices, FailsInLine, IsBadNext, IsLineFault, IsUnopened, StopsAfter, any_lateness, stop_of}
+use Rattle.cut_run.specs.Cut.{CutDevices, FailsInLine, IsBadNext, IsLineFault, IsUnopened, StopsAfter, stop_of}
 use Rattle.cut_run.specs.Cutting.{IsTakeFault}
 use Rattle.cut_run.specs.Faults.{LedgerSource, OutputSink, RecordingSource, names}
 use Rattle.cut_run.specs.Lines.{AreFramesOf, Choice, Chooses, Rise, TakesOf, is_read, read_lines}
@@ -84,8 +84,8 @@ cut_devices devices sources = record { ledger = devices.ledger; a = sources.a; b
 
 -- The recordings were read, and each line of a frame has found its own: they come later one by one.
 pub record AreFound (before after : Sources) (vs : List FrameLine) (frames_a frames_b frames : List Frame) : Type 0 where
-  pub read_a : IsReadPart A any_lateness before.a after.a frames_a
-  pub read_b : IsReadPart B any_lateness before.b after.b frames_b
+  pub read_a : IsReadPart A any_late before.a after.a frames_a
+  pub read_b : IsReadPart B any_late before.b after.b frames_b
   pub rise : Rise None vs
   pub named : AreFramesOf frames_a frames_b vs frames
 

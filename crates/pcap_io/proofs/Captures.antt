@@ -12,6 +12,7 @@ use Rattle.pcap_io.specs.declared.layout.TheConstants.{FILE_HEADER_LEN}
 use Rattle.pcap_io.specs.declared.position.Position.{Position}
 use Rattle.pcap_io.specs.declared.recording.Ending.TheVariants.{Clean}
 use Rattle.pcap_io.specs.declared.recording.Stage.TheVariants.{Going}
+use Rattle.pcap_io.specs.declared.told.Told.{Told}
 use Rattle.pcap_io.specs.declared.told.Told.TheVariants.{Nothing}
 use Rattle.pcap_io.proofs.FileHeader.{header-append}
 use Rattle.pcap_io.proofs.Parse.{holds_end, holds_more}
@@ -82,13 +83,13 @@ packets_hold network most late n high keep (f ∷ fs) can few =
     subst (λ (m : ℕ). Holds (position_at network most late n high) Nothing (packet_text f (keep f) ++ more) (capture_frames network n keep (f ∷ fs)) (Clean m)) all
     (holds_more (position_at network most late n high) Nothing (packet_text f (keep f) ++ more) more _ _ _ (takes_first network most late n high keep f more can.0 (omega arith)) next)
 
-header_size : length capture_header ≡ FILE_HEADER_LEN
+pub header_size : length capture_header ≡ FILE_HEADER_LEN
 unfolding capture_header
 header_size = refl
 
-header_is_read : header_of Nothing capture_header ≡ Ok capture_layout
+pub header_is_read : (told : Told) → header_of told capture_header ≡ Ok capture_layout
 unfolding capture_header
-header_is_read = refl
+header_is_read told = refl
 
 pub whole_capture : (network : Network) (most late : ℕ) (keep : Frame → ℕ) (frames : List Frame) → AreCapturable keep 0 frames → length frames ≤ most
     → (header_of Nothing (capture_of keep frames) ≡ Ok capture_layout)
@@ -98,6 +99,6 @@ whole_capture network most late keep frames can few =
     let zero : 0 + length frames ≡ length frames = omega arith in
     let behind : packets ≡ drop FILE_HEADER_LEN (capture_header ++ packets) = sym (drop_at capture_header packets FILE_HEADER_LEN header_size) in
     let held = rw zero at (packets_hold network most late 0 0 keep frames can (omega arith)) in (
-      header-append Nothing capture_header packets header_size ∙ header_is_read,
+      header-append Nothing capture_header packets header_size ∙ header_is_read Nothing,
       subst (λ (b : List ℕ). Holds (start_at network capture_layout most late) Nothing b (capture_frames network 0 keep frames) (Clean (length frames))) behind held,
     )

@@ -28,7 +28,7 @@ which : (b : Bool) → (b ≡ true) ⊎ (b ≡ false)
 which true = inl refl
 which false = inr refl
 
-are_bytes-true : (xs : List ℕ) → are_bytes xs ≡ true → IsBytes xs
+pub are_bytes-true : (xs : List ℕ) → are_bytes xs ≡ true → IsBytes xs
 are_bytes-true [] e i = lit< tt
 are_bytes-true (x ∷ xs) e zero = ltb-true x 256 (both_true _ _ e).0
 are_bytes-true (x ∷ xs) e (suc i) = are_bytes-true xs (both_true _ _ e).1 i

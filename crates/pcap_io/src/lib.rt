@@ -22,7 +22,8 @@
 //!   [`OpenFault`] and [`ReadFault`].
 //! - [`CaptureWriter`], with its [`WriteFault`].
 //! - [`TapSource`] and [`OutSink`], the devices: [`ReadSource`] and [`WriteSink`] over the readers and
-//!   writers of std, [`MemSource`] and [`MemSink`] over memory, which fail as a [`Script`] says.
+//!   writers of std, [`MemSource`] and [`MemSink`] over memory, which fail as a [`Script`] says. A source of
+//!   another format says by [`Told`] what pcap can't.
 //! - Laws: each recording parses in one way ([`every_recording_parses`], [`one_parse`]), a reader's
 //!   calls give that parse ([`reading_gives_the_parse`]), they tell where another file begins
 //!   ([`file_header_is_told`]), and a capture gives its frames back ([`capture_is_read`]).
@@ -54,10 +55,12 @@ pub use laws::{
     capture_is_read, every_recording_parses, file_header_is_told, one_parse,
     reading_gives_the_parse,
 };
-pub use layout::{ByteOrder, HeaderFault, Layout, Precision, layout_of, read_u16, read_u32};
+pub use layout::{
+    ByteOrder, FILE_HEADER_LEN, HeaderFault, Layout, Precision, layout_of, read_u16, read_u32,
+};
 pub use mem_sink::MemSink;
 pub use mem_source::MemSource;
-pub use packet_header::{MAX_PACKET_LEN, PacketHeader};
+pub use packet_header::{MAX_PACKET_LEN, PACKET_HEADER_LEN, PacketHeader};
 pub use read_source::ReadSource;
 pub use reader::{OpenFault, OpenRefused, TapReader};
 pub use recording::{BadReason, Ending};
@@ -65,4 +68,4 @@ pub use script::Script;
 pub use told::Told;
 pub use transfer::{fill, write_all};
 pub use write_sink::WriteSink;
-pub use writer::{CaptureWriter, WriteFault, append_header, append_packet};
+pub use writer::{CaptureWriter, WriteFault, append_header, append_packet, capture_header};

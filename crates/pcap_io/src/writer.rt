@@ -23,11 +23,19 @@ pub enum WriteFault {
     Failed,
 }
 
-/// The file header: nanoseconds, little-endian, version 2.4, a snapshot length of 262144 bytes,
-/// Ethernet.
+/// The file header of a capture.
 const HEADER: [u8; FILE_HEADER_LEN] = [
     0x4d, 0x3c, 0xb2, 0xa1, 2, 0, 4, 0, 0, 0, 0, 0, 0, 0, 0, 0, 0, 0, 4, 0, 1, 0, 0, 0,
 ];
+
+/// The file header of a capture: nanoseconds, little-endian, version 2.4, a snapshot length of 262144 bytes,
+/// Ethernet.
+#[tactic(auto, unfolding(crate::specs::Capture::capture_header))]
+pub fn capture_header() -> [u8; FILE_HEADER_LEN]
+    ensures { result ≡ capture_header }
+{
+    HEADER
+}
 
 /// The header of a frame's packet.
 #[inline]

@@ -17,7 +17,8 @@ use Rattle.pcapng.specs.File as file
 use Rattle.pcapng.specs.Handed.{given_of}
 use Rattle.pcapng.specs.Options.{options_of, options_within}
 use Rattle.pcapng.specs.Section.{Known, in_section, role_of, stamp_of, unknown, with_taken}
-use Rattle.pcapng.specs.Text.{file_header_bytes, packet_header_bytes}
+use Rattle.pcap_io.specs.Capture.{capture_header}
+use Rattle.pcapng.specs.Text.{packet_header_bytes}
 use Rattle.pcapng.specs.declared.block.BlockKind.TheVariants as kinds
 use Rattle.pcapng.specs.declared.block.FirstSection.TheVariants.{Begins}
 use Rattle.pcapng.specs.declared.block.PacketFields.{PacketFields}
@@ -160,12 +161,12 @@ both_given number taken (p ∷ ps) can =
 -- ---- whole captures
 
 -- after the section header
-header_given : (choice : Choice) (more : List ℕ) → given_of choice (section_header ++ more) ≡ followed file_header_bytes (given_at (in_section Little (unknown choice Little)) more)
+header_given : (choice : Choice) (more : List ℕ) → given_of choice (section_header ++ more) ≡ followed capture_header (given_at (in_section Little (unknown choice Little)) more)
 unfolding section_header first_of start_of options_of options_within
 header_given choice more =
     let first = first-settled section_header more (Begins Little 28) (omega arith) refl tt in
     given_opened choice (section_header ++ more) (Begins Little 28) (omega arith, refl) first
-    ∙ ap (λ (b : List ℕ). followed file_header_bytes (given_at (in_section Little (unknown choice Little)) b)) (drop_at section_header more 28 refl)
+    ∙ ap (λ (b : List ℕ). followed capture_header (given_at (in_section Little (unknown choice Little)) b)) (drop_at section_header more 28 refl)
 
 one_described : (more : List ℕ) → given_at (in_section Little (unknown Any Little)) (descriptions_of One ++ more) ≡ given_at (known_one false) more
 unfolding taken_of known_one descriptions_of start_of read_of options_of options_within
@@ -200,17 +201,17 @@ both_described (suc zero) more few =
 both_described (suc (suc number)) more few = absurd (omega arith)
 
 pub capture_given : (packets : List Written) → AreWritable packets
-    → given_of Any (capture_bytes One packets) ≡ given.plain (file_header_bytes ++ flat_map given_packet packets)
+    → given_of Any (capture_bytes One packets) ≡ given.plain (capture_header ++ flat_map given_packet packets)
 capture_given packets can =
     let blocks = flat_map (written_block One) packets in
     ap (given_of Any) (append_assoc section_header (descriptions_of One) blocks)
     ∙ (header_given Any (descriptions_of One ++ blocks)
-    ∙ ap (followed file_header_bytes) (one_described blocks ∙ one_given false packets can))
+    ∙ ap (followed capture_header) (one_described blocks ∙ one_given false packets can))
 
 pub network_given : (number : ℕ) (packets : List Written) → number < 2 → AreWritable packets
-    → given_of (Number number) (capture_bytes Networks packets) ≡ given.plain (file_header_bytes ++ flat_map given_packet (filter (is_of number) packets))
+    → given_of (Number number) (capture_bytes Networks packets) ≡ given.plain (capture_header ++ flat_map given_packet (filter (is_of number) packets))
 network_given number packets few can =
     let blocks = flat_map (written_block Networks) packets in
     ap (given_of (Number number)) (append_assoc section_header (descriptions_of Networks) blocks)
     ∙ (header_given (Number number) (descriptions_of Networks ++ blocks)
-    ∙ ap (followed file_header_bytes) (both_described number blocks few ∙ both_given number None packets can))
+    ∙ ap (followed capture_header) (both_described number blocks few ∙ both_given number None packets can))

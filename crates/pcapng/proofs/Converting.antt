@@ -18,7 +18,8 @@ use Rattle.pcapng.specs.Interface.{Described, interface_of}
 use Rattle.pcapng.specs.Handed.{EndsWithin, KeepsRest, block_of, end_at, handed, pending_of, rest_at, skipped_at, unread_of}
 use Rattle.pcapng.specs.Section.{Known, in_section, known_of, next_number, noted, role_of, stamp_of, with_taken}
 use Rattle.pcapng.specs.Given.{Given, followed, only}
-use Rattle.pcapng.specs.Text.{file_header_bytes, packet_header_bytes}
+use Rattle.pcap_io.specs.Capture.{capture_header}
+use Rattle.pcapng.specs.Text.{packet_header_bytes}
 use Rattle.pcapng.specs.declared.block.BlockKind.{BlockKind}
 use Rattle.pcapng.specs.declared.block.BlockKind.TheVariants as kinds
 use Rattle.pcapng.specs.declared.block.BlockStart.{BlockStart}
@@ -171,23 +172,27 @@ skip_wrong c left len l t p four long other =
     skipped_wrong len (known_of c.section) u l (omega (arith, size)) other
     ∙ skip_keeps c left left len 0 (c.start + left) l t p (omega arith) long (omega arith) (omega arith) refl
 
+whole_header : slice_range capture_header 0 24 ≡ capture_header
+unfolding capture_header
+whole_header = refl
+
 -- the first section header is there whole
 pub opens_section : (c : Converter) (s : Section) (header : List ℕ) (order : ByteOrder) (len at : ℕ) (l : List ℕ) → c.stage ≡ stages.FirstSection → pending_of c ≡ []
     → 12 ≤ length (unread_of c) → len ≤ length (unread_of c) → c.end ≤ length c.block.items → first_of (unread_of c) ≡ firsts.Begins order len
-    → header ≡ file_header_bytes → known_of s ≡ in_section order (known_of c.section) → at ≡ c.start + len
+    → header ≡ capture_header → known_of s ≡ in_section order (known_of c.section) → at ≡ c.start + len
     → followed (slice_range header 0 24 ++ slice_range c.block.items c.body_from c.body_to) (given_at (known_of s) (slice_range c.block.items at c.end ++ l)) ≡ handed c l
 opens_section c s header order len at l t p some whole long e is known behind =
     let k = known_of c.section in
     let rest = given_at (known_of s) (slice_range c.block.items at c.end ++ l) in
     let body : slice_range c.block.items c.body_from c.body_to ≡ [] = none_second (slice_range c.header c.header_from c.header_to) _ p in
-    let front : slice_range header 0 24 ≡ file_header_bytes = ap (λ (h : List ℕ). slice_range h 0 24) is in
+    let front : slice_range header 0 24 ≡ capture_header = ap (λ (h : List ℕ). slice_range h 0 24) is ∙ whole_header in
     let size : length (unread_of c) ≡ c.end - c.start = length-between c.start c.end c.block.items long in
     let unread : slice_range c.block.items at c.end ≡ drop len (unread_of c) =
     ap (λ (m : ℕ). slice_range c.block.items m c.end) behind ∙ sym (drop_slice len c.start c.end c.block.items (omega (arith, size, c.ordered)) long) in
     ap (λ (b : List ℕ). followed (slice_range header 0 24 ++ b) rest) body
     ∙ (ap (λ (h : List ℕ). followed h rest) (append-nil (slice_range header 0 24) ∙ front)
-    ∙ (ap (λ (m : Known). followed file_header_bytes (given_at m (slice_range c.block.items at c.end ++ l))) known
-    ∙ (ap (λ (u : List ℕ). followed file_header_bytes (given_at (in_section order k) (u ++ l))) unread
+    ∙ (ap (λ (m : Known). followed capture_header (given_at m (slice_range c.block.items at c.end ++ l))) known
+    ∙ (ap (λ (u : List ℕ). followed capture_header (given_at (in_section order k) (u ++ l))) unread
     ∙ sym (at_stage c stages.FirstSection l t p ∙ opened_whole k (unread_of c) l order len some whole e))))
 
 -- ---- whole blocks

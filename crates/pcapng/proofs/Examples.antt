@@ -1,5 +1,6 @@
 -- Small files, and the pcap that each stands for: the definitions compute it.
 use Rattle.std.proofs.Common.{◌≡◌, ℕ, List, [], ◌∷◌, refl, arith}
+use Rattle.pcap_io.specs.Capture.{capture_header}
 use Rattle.pcap_io.specs.declared.layout.ByteOrder.TheVariants.{Little}
 use Rattle.pcapng.specs.Block.{start_of}
 use Rattle.pcapng.specs.File.{blocks_of, blocks_within, first_of, pcap_of, read_of}
@@ -26,7 +27,7 @@ little : pcap_of (unknown Any Little)
     ≡ given tolds.Nothing
     (77 ∷ 60 ∷ 178 ∷ 161 ∷ 2 ∷ 0 ∷ 4 ∷ 0 ∷ 0 ∷ 0 ∷ 0 ∷ 0 ∷ 0 ∷ 0 ∷ 0 ∷ 0 ∷ 0 ∷ 0 ∷ 4 ∷ 0 ∷ 1 ∷ 0 ∷ 0 ∷ 0 ∷ 7 ∷ 0 ∷ 0 ∷ 0 ∷ 136 ∷ 19 ∷ 0 ∷ 0 ∷
     3 ∷ 0 ∷ 0 ∷ 0 ∷ 60 ∷ 0 ∷ 0 ∷ 0 ∷ 1 ∷ 2 ∷ 3 ∷ [])
-unfolding start_of blocks_of blocks_within first_of read_of options_of options_within
+unfolding start_of blocks_of blocks_within first_of read_of options_of options_within capture_header
 little = refl
 
 -- the same in the other byte order
@@ -39,7 +40,7 @@ big : pcap_of (unknown Any Little)
     ≡ given tolds.Nothing
     (77 ∷ 60 ∷ 178 ∷ 161 ∷ 2 ∷ 0 ∷ 4 ∷ 0 ∷ 0 ∷ 0 ∷ 0 ∷ 0 ∷ 0 ∷ 0 ∷ 0 ∷ 0 ∷ 0 ∷ 0 ∷ 4 ∷ 0 ∷ 1 ∷ 0 ∷ 0 ∷ 0 ∷ 7 ∷ 0 ∷ 0 ∷ 0 ∷ 136 ∷ 19 ∷ 0 ∷ 0 ∷
     3 ∷ 0 ∷ 0 ∷ 0 ∷ 60 ∷ 0 ∷ 0 ∷ 0 ∷ 1 ∷ 2 ∷ 3 ∷ [])
-unfolding start_of blocks_of blocks_within first_of read_of options_of options_within
+unfolding start_of blocks_of blocks_within first_of read_of options_of options_within capture_header
 big = refl
 
 -- the last byte of a packet is missing
@@ -51,7 +52,7 @@ cut : pcap_of (unknown Any Little)
     ≡ given tolds.Cut
     (77 ∷ 60 ∷ 178 ∷ 161 ∷ 2 ∷ 0 ∷ 4 ∷ 0 ∷ 0 ∷ 0 ∷ 0 ∷ 0 ∷ 0 ∷ 0 ∷ 0 ∷ 0 ∷ 0 ∷ 0 ∷ 4 ∷ 0 ∷ 1 ∷ 0 ∷ 0 ∷ 0 ∷ 7 ∷ 0 ∷ 0 ∷ 0 ∷ 136 ∷ 19 ∷ 0 ∷ 0 ∷
     3 ∷ 0 ∷ 0 ∷ 0 ∷ 60 ∷ 0 ∷ 0 ∷ 0 ∷ 1 ∷ 2 ∷ 3 ∷ [])
-unfolding start_of blocks_of blocks_within first_of read_of options_of options_within
+unfolding start_of blocks_of blocks_within first_of read_of options_of options_within capture_header
 cut = refl
 
 -- the section header isn't whole
@@ -59,7 +60,7 @@ header_cut : pcap_of (unknown Any Little)
     (10 ∷ 13 ∷ 13 ∷ 10 ∷ 28 ∷ 0 ∷ 0 ∷ 0 ∷ 77 ∷ 60 ∷ 43 ∷ 26 ∷ 1 ∷ 0 ∷ 0 ∷ 0 ∷ 255 ∷ 255 ∷ 255 ∷ 255 ∷ 255 ∷ 255 ∷ 255 ∷ 255 ∷ 28 ∷ 0 ∷ 0 ∷ [])
     ≡ given tolds.Nothing
     ([])
-unfolding start_of blocks_of blocks_within first_of read_of options_of options_within
+unfolding start_of blocks_of blocks_within first_of read_of options_of options_within capture_header
 header_cut = refl
 
 -- version 2
@@ -68,7 +69,7 @@ other_version : pcap_of (unknown Any Little)
     20 ∷ 0 ∷ 0 ∷ 0 ∷ 1 ∷ 0 ∷ 0 ∷ 0 ∷ 0 ∷ 0 ∷ 0 ∷ 0 ∷ 20 ∷ 0 ∷ 0 ∷ 0 ∷ [])
     ≡ given (tolds.NoHeader faults.SectionVersion)
     ([])
-unfolding start_of blocks_of blocks_within first_of read_of options_of options_within
+unfolding start_of blocks_of blocks_within first_of read_of options_of options_within capture_header
 other_version = refl
 
 -- the second section has an order of its own, and numbers its interfaces anew
@@ -81,7 +82,7 @@ two_sections : pcap_of (unknown Any Little)
     ≡ given (tolds.Bad reasons.UnknownInterface)
     (77 ∷ 60 ∷ 178 ∷ 161 ∷ 2 ∷ 0 ∷ 4 ∷ 0 ∷ 0 ∷ 0 ∷ 0 ∷ 0 ∷ 0 ∷ 0 ∷ 0 ∷ 0 ∷ 0 ∷ 0 ∷ 4 ∷ 0 ∷ 1 ∷ 0 ∷ 0 ∷ 0 ∷ 7 ∷ 0 ∷ 0 ∷ 0 ∷ 136 ∷ 19 ∷ 0 ∷ 0 ∷
     3 ∷ 0 ∷ 0 ∷ 0 ∷ 60 ∷ 0 ∷ 0 ∷ 0 ∷ 1 ∷ 2 ∷ 3 ∷ [])
-unfolding start_of blocks_of blocks_within first_of read_of options_of options_within
+unfolding start_of blocks_of blocks_within first_of read_of options_of options_within capture_header
 two_sections = refl
 
 -- an interface of nanoseconds by its name, in a second section
@@ -97,7 +98,7 @@ named : pcap_of (unknown (Name (record { bytes = 65 ∷ []; len = 1; bounded = o
     ≡ given tolds.Nothing
     (77 ∷ 60 ∷ 178 ∷ 161 ∷ 2 ∷ 0 ∷ 4 ∷ 0 ∷ 0 ∷ 0 ∷ 0 ∷ 0 ∷ 0 ∷ 0 ∷ 0 ∷ 0 ∷ 0 ∷ 0 ∷ 4 ∷ 0 ∷ 1 ∷ 0 ∷ 0 ∷ 0 ∷ 7 ∷ 0 ∷ 0 ∷ 0 ∷ 5 ∷ 0 ∷ 0 ∷ 0 ∷
     3 ∷ 0 ∷ 0 ∷ 0 ∷ 60 ∷ 0 ∷ 0 ∷ 0 ∷ 1 ∷ 2 ∷ 3 ∷ [])
-unfolding start_of blocks_of blocks_within first_of read_of options_of options_within
+unfolding start_of blocks_of blocks_within first_of read_of options_of options_within capture_header
 named = refl
 
 -- two interfaces have the chosen name: the first is read, and packets of the second are skipped
@@ -112,7 +113,7 @@ two_of_the_name : pcap_of (unknown (Name (record { bytes = 65 ∷ []; len = 1; b
     ≡ given tolds.Nothing
     (77 ∷ 60 ∷ 178 ∷ 161 ∷ 2 ∷ 0 ∷ 4 ∷ 0 ∷ 0 ∷ 0 ∷ 0 ∷ 0 ∷ 0 ∷ 0 ∷ 0 ∷ 0 ∷ 0 ∷ 0 ∷ 4 ∷ 0 ∷ 1 ∷ 0 ∷ 0 ∷ 0 ∷ 7 ∷ 0 ∷ 0 ∷ 0 ∷ 136 ∷ 19 ∷ 0 ∷ 0 ∷
     3 ∷ 0 ∷ 0 ∷ 0 ∷ 60 ∷ 0 ∷ 0 ∷ 0 ∷ 1 ∷ 2 ∷ 3 ∷ [])
-unfolding start_of blocks_of blocks_within first_of read_of options_of options_within
+unfolding start_of blocks_of blocks_within first_of read_of options_of options_within capture_header
 two_of_the_name = refl
 
 -- interface 1 was chosen, and there is none
@@ -122,7 +123,7 @@ not_there : pcap_of (unknown (Number 1) Little)
     197 ∷ 207 ∷ 106 ∷ 0 ∷ 3 ∷ 0 ∷ 0 ∷ 0 ∷ 60 ∷ 0 ∷ 0 ∷ 0 ∷ 1 ∷ 2 ∷ 3 ∷ 0 ∷ 36 ∷ 0 ∷ 0 ∷ 0 ∷ [])
     ≡ given (tolds.Bad reasons.NoSuchInterface)
     (77 ∷ 60 ∷ 178 ∷ 161 ∷ 2 ∷ 0 ∷ 4 ∷ 0 ∷ 0 ∷ 0 ∷ 0 ∷ 0 ∷ 0 ∷ 0 ∷ 0 ∷ 0 ∷ 0 ∷ 0 ∷ 4 ∷ 0 ∷ 1 ∷ 0 ∷ 0 ∷ 0 ∷ [])
-unfolding start_of blocks_of blocks_within first_of read_of options_of options_within
+unfolding start_of blocks_of blocks_within first_of read_of options_of options_within capture_header
 not_there = refl
 
 -- packets of two interfaces, and none is chosen
@@ -135,7 +136,7 @@ several : pcap_of (unknown Any Little)
     ≡ given (tolds.Bad reasons.SeveralInterfaces)
     (77 ∷ 60 ∷ 178 ∷ 161 ∷ 2 ∷ 0 ∷ 4 ∷ 0 ∷ 0 ∷ 0 ∷ 0 ∷ 0 ∷ 0 ∷ 0 ∷ 0 ∷ 0 ∷ 0 ∷ 0 ∷ 4 ∷ 0 ∷ 1 ∷ 0 ∷ 0 ∷ 0 ∷ 7 ∷ 0 ∷ 0 ∷ 0 ∷ 136 ∷ 19 ∷ 0 ∷ 0 ∷
     3 ∷ 0 ∷ 0 ∷ 0 ∷ 60 ∷ 0 ∷ 0 ∷ 0 ∷ 1 ∷ 2 ∷ 3 ∷ [])
-unfolding start_of blocks_of blocks_within first_of read_of options_of options_within
+unfolding start_of blocks_of blocks_within first_of read_of options_of options_within capture_header
 several = refl
 
 -- interfaces of two names, each the first of its section: they are two
@@ -149,7 +150,7 @@ other_name : pcap_of (unknown Any Little)
     ≡ given (tolds.Bad reasons.SeveralInterfaces)
     (77 ∷ 60 ∷ 178 ∷ 161 ∷ 2 ∷ 0 ∷ 4 ∷ 0 ∷ 0 ∷ 0 ∷ 0 ∷ 0 ∷ 0 ∷ 0 ∷ 0 ∷ 0 ∷ 0 ∷ 0 ∷ 4 ∷ 0 ∷ 1 ∷ 0 ∷ 0 ∷ 0 ∷ 7 ∷ 0 ∷ 0 ∷ 0 ∷ 136 ∷ 19 ∷ 0 ∷ 0 ∷
     3 ∷ 0 ∷ 0 ∷ 0 ∷ 60 ∷ 0 ∷ 0 ∷ 0 ∷ 1 ∷ 2 ∷ 3 ∷ [])
-unfolding start_of blocks_of blocks_within first_of read_of options_of options_within
+unfolding start_of blocks_of blocks_within first_of read_of options_of options_within capture_header
 other_name = refl
 
 -- an interface of one name, whose number in the second section is another: it is one
@@ -164,7 +165,7 @@ same_name : pcap_of (unknown Any Little)
     ≡ given tolds.Nothing
     (77 ∷ 60 ∷ 178 ∷ 161 ∷ 2 ∷ 0 ∷ 4 ∷ 0 ∷ 0 ∷ 0 ∷ 0 ∷ 0 ∷ 0 ∷ 0 ∷ 0 ∷ 0 ∷ 0 ∷ 0 ∷ 4 ∷ 0 ∷ 1 ∷ 0 ∷ 0 ∷ 0 ∷ 7 ∷ 0 ∷ 0 ∷ 0 ∷ 136 ∷ 19 ∷ 0 ∷ 0 ∷
     3 ∷ 0 ∷ 0 ∷ 0 ∷ 60 ∷ 0 ∷ 0 ∷ 0 ∷ 1 ∷ 2 ∷ 3 ∷ 7 ∷ 0 ∷ 0 ∷ 0 ∷ 136 ∷ 19 ∷ 0 ∷ 0 ∷ 3 ∷ 0 ∷ 0 ∷ 0 ∷ 60 ∷ 0 ∷ 0 ∷ 0 ∷ 1 ∷ 2 ∷ 3 ∷ [])
-unfolding start_of blocks_of blocks_within first_of read_of options_of options_within
+unfolding start_of blocks_of blocks_within first_of read_of options_of options_within capture_header
 same_name = refl
 
 -- interfaces without names, of two numbers: they are two
@@ -179,7 +180,7 @@ other_number : pcap_of (unknown Any Little)
     ≡ given (tolds.Bad reasons.SeveralInterfaces)
     (77 ∷ 60 ∷ 178 ∷ 161 ∷ 2 ∷ 0 ∷ 4 ∷ 0 ∷ 0 ∷ 0 ∷ 0 ∷ 0 ∷ 0 ∷ 0 ∷ 0 ∷ 0 ∷ 0 ∷ 0 ∷ 4 ∷ 0 ∷ 1 ∷ 0 ∷ 0 ∷ 0 ∷ 7 ∷ 0 ∷ 0 ∷ 0 ∷ 136 ∷ 19 ∷ 0 ∷ 0 ∷
     3 ∷ 0 ∷ 0 ∷ 0 ∷ 60 ∷ 0 ∷ 0 ∷ 0 ∷ 1 ∷ 2 ∷ 3 ∷ [])
-unfolding start_of blocks_of blocks_within first_of read_of options_of options_within
+unfolding start_of blocks_of blocks_within first_of read_of options_of options_within capture_header
 other_number = refl
 
 -- the name stays known over a section that gives none: the third section's interface is another
@@ -196,7 +197,7 @@ name_kept : pcap_of (unknown Any Little)
     ≡ given (tolds.Bad reasons.SeveralInterfaces)
     (77 ∷ 60 ∷ 178 ∷ 161 ∷ 2 ∷ 0 ∷ 4 ∷ 0 ∷ 0 ∷ 0 ∷ 0 ∷ 0 ∷ 0 ∷ 0 ∷ 0 ∷ 0 ∷ 0 ∷ 0 ∷ 4 ∷ 0 ∷ 1 ∷ 0 ∷ 0 ∷ 0 ∷ 7 ∷ 0 ∷ 0 ∷ 0 ∷ 136 ∷ 19 ∷ 0 ∷ 0 ∷
     3 ∷ 0 ∷ 0 ∷ 0 ∷ 60 ∷ 0 ∷ 0 ∷ 0 ∷ 1 ∷ 2 ∷ 3 ∷ 7 ∷ 0 ∷ 0 ∷ 0 ∷ 136 ∷ 19 ∷ 0 ∷ 0 ∷ 3 ∷ 0 ∷ 0 ∷ 0 ∷ 60 ∷ 0 ∷ 0 ∷ 0 ∷ 1 ∷ 2 ∷ 3 ∷ [])
-unfolding start_of blocks_of blocks_within first_of read_of options_of options_within
+unfolding start_of blocks_of blocks_within first_of read_of options_of options_within capture_header
 name_kept = refl
 
 -- the lengths of a block that is passed over differ
@@ -207,7 +208,7 @@ lengths_differ : pcap_of (unknown Any Little)
     36 ∷ 0 ∷ 0 ∷ 0 ∷ [])
     ≡ given (tolds.Bad reasons.BlockLengthsDiffer)
     (77 ∷ 60 ∷ 178 ∷ 161 ∷ 2 ∷ 0 ∷ 4 ∷ 0 ∷ 0 ∷ 0 ∷ 0 ∷ 0 ∷ 0 ∷ 0 ∷ 0 ∷ 0 ∷ 0 ∷ 0 ∷ 4 ∷ 0 ∷ 1 ∷ 0 ∷ 0 ∷ 0 ∷ [])
-unfolding start_of blocks_of blocks_within first_of read_of options_of options_within
+unfolding start_of blocks_of blocks_within first_of read_of options_of options_within capture_header
 lengths_differ = refl
 
 -- a packet without a timestamp
@@ -217,5 +218,5 @@ simple : pcap_of (unknown Any Little)
     20 ∷ 0 ∷ 0 ∷ 0 ∷ [])
     ≡ given (tolds.Bad reasons.SimplePacket)
     (77 ∷ 60 ∷ 178 ∷ 161 ∷ 2 ∷ 0 ∷ 4 ∷ 0 ∷ 0 ∷ 0 ∷ 0 ∷ 0 ∷ 0 ∷ 0 ∷ 0 ∷ 0 ∷ 0 ∷ 0 ∷ 4 ∷ 0 ∷ 1 ∷ 0 ∷ 0 ∷ 0 ∷ [])
-unfolding start_of blocks_of blocks_within first_of read_of options_of options_within
+unfolding start_of blocks_of blocks_within first_of read_of options_of options_within capture_header
 simple = refl

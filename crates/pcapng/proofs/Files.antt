@@ -13,7 +13,7 @@ use Rattle.pcapng.specs.Block.{is_length_of, is_short, kind_of, order_of, order_
 use Rattle.pcapng.specs.File.{Blocks, block, blocks_from, blocks_of, blocks_within, cut, end_given, ended, first_as, first_of, first_with, given_after, given_at, given_for, opened, pcap_of, read_of, section_begun, section_within}
 use Rattle.pcapng.specs.Section.{Known, in_section}
 use Rattle.pcapng.specs.Given.{followed, only}
-use Rattle.pcapng.specs.Text.{file_header_bytes}
+use Rattle.pcap_io.specs.Capture.{capture_header}
 use Rattle.pcapng.specs.declared.block.BlockKind.{BlockKind}
 use Rattle.pcapng.specs.declared.block.BlockKind.TheVariants as kinds
 use Rattle.pcapng.specs.declared.block.BlockStart.{BlockStart}
@@ -242,10 +242,10 @@ opened_wrong k u l fault some e =
 
 -- a section begins
 pub opened_whole : (k : Known) (u l : List ℕ) (order : ByteOrder) (len : ℕ) → 12 ≤ length u → len ≤ length u → first_of u ≡ firsts.Begins order len
-    → pcap_of k (u ++ l) ≡ followed file_header_bytes (given_at (in_section order k) (drop len u ++ l))
+    → pcap_of k (u ++ l) ≡ followed capture_header (given_at (in_section order k) (drop len u ++ l))
 opened_whole k u l order len some whole e =
     opened_as k (u ++ l) (firsts.Begins order len) (omega (arith, length-append u l)) (first-settled u l (firsts.Begins order len) some e tt)
-    ∙ ap (λ (b : List ℕ). followed file_header_bytes (given_at (in_section order k) b)) (drop-append-le len u l whole)
+    ∙ ap (λ (b : List ℕ). followed capture_header (given_at (in_section order k) b)) (drop-append-le len u l whole)
 
 -- ---- how it is found
 

@@ -6,7 +6,7 @@ use Rattle.byteorder.specs.Endian.{big_number}
 use Rattle.pcap_io.proofs.Bytes.{bytes_of-from}
 use Rattle.pcap_io.proofs.PacketBytes.{IsBytes-drop}
 use Rattle.pcap_io.proofs.Parse.{IsBytes-take}
-use Rattle.pcap_io.specs.Bytes.{IsBytes, bytes_of}
+use Rattle.pcap_io.specs.Bytes.{are_bytes-true, IsBytes, bytes_of}
 use Rattle.pcap_io.specs.Recording.{header_bytes}
 use Rattle.pcap_io.specs.declared.layout.ByteOrder.{ByteOrder}
 use Rattle.pcap_io.specs.declared.layout.ByteOrder.TheVariants.{Little}
@@ -20,7 +20,8 @@ use Rattle.pcapng.specs.Handed.{given_as, given_of}
 use Rattle.pcapng.specs.Interface.{Described}
 use Rattle.pcapng.specs.Section.{Known, in_section, next_number, role_of, stamp_of, unknown, with_interface, with_taken}
 use Rattle.pcapng.specs.Given.{Given, only, plain}
-use Rattle.pcapng.specs.Text.{converted_layout, file_header_bytes, packet_header_bytes}
+use Rattle.pcap_io.specs.Capture.{capture_header, capture_layout}
+use Rattle.pcapng.specs.Text.{packet_header_bytes}
 use Rattle.pcapng.specs.declared.block.BlockKind.{BlockKind}
 use Rattle.pcapng.specs.declared.block.BlockKind.TheVariants as kinds
 use Rattle.pcapng.specs.declared.block.BlockStart.{BlockStart}
@@ -57,7 +58,7 @@ high_first (suc n) x = one (byte_at n x) (bytes_high_first n x) (fits_byte n x) 
 
 -- ---- headers
 
-header : (seconds fraction captured original : ℕ) → IsBytes (header_bytes converted_layout seconds fraction captured original)
+header : (seconds fraction captured original : ℕ) → IsBytes (header_bytes capture_layout seconds fraction captured original)
 header seconds fraction captured original =
     let a = bytes_low_first 0 4 seconds in
     let b = bytes_low_first 0 4 fraction in
@@ -65,19 +66,9 @@ header seconds fraction captured original =
     let d = bytes_low_first 0 4 original in
     both a (b ++ (c ++ d)) (low_first 0 4 seconds) (both b (c ++ d) (low_first 0 4 fraction) (both c d (low_first 0 4 captured) (low_first 0 4 original)))
 
-file_header : IsBytes file_header_bytes
-file_header =
-    let magic = bytes_low_first 0 4 0xa1b23c4d in
-    let major = bytes_low_first 0 2 2 in
-    let minor = bytes_low_first 0 2 4 in
-    let zone = bytes_low_first 0 4 0 in
-    let most = bytes_low_first 0 4 262144 in
-    let link = bytes_low_first 0 4 1 in
-    both magic (major ++ (minor ++ (zone ++ (zone ++ (most ++ link))))) (low_first 0 4 0xa1b23c4d)
-    (both major (minor ++ (zone ++ (zone ++ (most ++ link)))) (low_first 0 2 2)
-    (both minor (zone ++ (zone ++ (most ++ link))) (low_first 0 2 4)
-    (both zone (zone ++ (most ++ link)) (low_first 0 4 0)
-    (both zone (most ++ link) (low_first 0 4 0) (both most link (low_first 0 4 262144) (low_first 0 4 1))))))
+file_header : IsBytes capture_header
+unfolding capture_header
+file_header = are_bytes-true capture_header refl
 
 -- ---- what a block gives
 
@@ -189,7 +180,7 @@ opened-bytes : (first : FirstSection) (k : Known) (bytes : List ℕ) → IsBytes
 opened-bytes (firsts.Needs needed) k bytes fits = none
 opened-bytes (firsts.Wrong fault) k bytes fits = none
 opened-bytes (firsts.Begins order len) k bytes fits =
-    both file_header_bytes _ file_header (at_bytes (in_section order k) (drop len bytes) (IsBytes-drop len bytes fits))
+    both capture_header _ file_header (at_bytes (in_section order k) (drop len bytes) (IsBytes-drop len bytes fits))
 
 pcap_of-bytes : (k : Known) (bytes : List ℕ) → IsBytes bytes → IsBytes (pcap_of k bytes).bytes
 pcap_of-bytes k bytes fits = end (nat_lt (length bytes) 12) (only tolds.Nothing) (opened (first_of bytes) k bytes) none (opened-bytes (first_of bytes) k bytes fits)

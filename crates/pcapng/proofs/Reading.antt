@@ -5,6 +5,7 @@ use Rattle.std.proofs.lemmas.List.{append-nil, drop_at, length-append, take_at}
 use Rattle.std.proofs.lemmas.List.Concat.{flat_map-append}
 use Rattle.byteorder.specs.Endian.{big_number}
 use Rattle.afdx_frame.specs.declared.bounds.TheConstants.{MAX_SNAPLEN}
+use Rattle.pcap_io.proofs.Captures.{header_is_read, header_size}
 use Rattle.pcap_io.proofs.Draws.{length-between}
 use Rattle.pcap_io.proofs.FileHeader.{header-append}
 use Rattle.pcap_io.proofs.PacketBytes.{IsBytes-drop, number_fits}
@@ -34,7 +35,8 @@ use Rattle.pcapng.specs.Laws.{AreInTime, AreNoHeaders, AreReadable, HoldsPackets
 use Rattle.pcapng.specs.Options.{padded_len}
 use Rattle.pcapng.specs.Packets.{ending_after, ending_for, packet_at, packet_with, packets_after, packets_as, packets_for, stamped_packet}
 use Rattle.pcapng.specs.Section.{Known, in_section, next_number, role_of, stamp_from, stamp_of, stamp_with, unknown, with_interface, with_taken}
-use Rattle.pcapng.specs.Text.{converted_layout, file_header_bytes, packet_header_bytes}
+use Rattle.pcap_io.specs.Capture.{capture_header, capture_layout}
+use Rattle.pcapng.specs.Text.{packet_header_bytes}
 use Rattle.pcapng.specs.declared.block.BlockKind.{BlockKind}
 use Rattle.pcapng.specs.declared.block.BlockKind.TheVariants as kinds
 use Rattle.pcapng.specs.declared.block.BlockStart.{BlockStart}
@@ -47,9 +49,9 @@ use Rattle.pcapng.specs.declared.interface.Offset.TheVariants.{Earlier, Later}
 use Rattle.pcapng.specs.declared.section.Role.{Role}
 use Rattle.pcapng.specs.declared.section.Role.TheVariants as roles
 
--- the bytes of packets in a recording of the converted layout
+-- the bytes of packets in a recording of a capture's layout
 texts : List Packet → List ℕ
-texts packets = flat_map (packet_bytes converted_layout) packets
+texts packets = flat_map (packet_bytes capture_layout) packets
 
 -- ---- what a block gives is its packet
 
@@ -131,7 +133,7 @@ after-text (Err told) own packets given gives rest = refl
 after-text (Ok read) own packets given gives rest =
     let k = read.known in
     ap (λ (l : List ℕ). l ++ (given k).bytes) (gives read refl)
-    ∙ (ap (λ (l : List ℕ). texts own ++ l) (rest k) ∙ sym (flat_map-append (packet_bytes converted_layout) own (packets k)))
+    ∙ (ap (λ (l : List ℕ). texts own ++ l) (rest k) ∙ sym (flat_map-append (packet_bytes capture_layout) own (packets k)))
 
 end-text : (b : Bool) → (if b then only tolds.Nothing else only (tolds.Bad reasons.NoSuchInterface)).bytes ≡ []
 end-text true = refl
@@ -230,12 +232,12 @@ blocks-fit (block start bytes rest) k h =
     after-fit (read_of k start bytes) (packets_as start.kind k start.order bytes) (λ known. packets_for known rest)
     (λ found e. read-fits k start bytes found h.0 e) (λ known. blocks-fit rest known h.1)
 
-good_from : (late high : ℕ) (ps : List Packet) → AllFit ps → AreNoHeaders ps → AreInTime late high ps → AreGood converted_layout late high ps
+good_from : (late high : ℕ) (ps : List Packet) → AllFit ps → AreNoHeaders ps → AreInTime late high ps → AreGood capture_layout late high ps
 unfolding Fits AllFit
 good_from late high [] a n b = tt
 good_from late high (p ∷ ps) a n b = (
   record { few_bytes = a.0.0; seconds_fit = a.0.1; original_len_fits = a.0.2; within_second = a.0.3; no_file_header = n.0; in_time = b.0 },
-  good_from late (max high (recording.stamp_of converted_layout p)) ps a.1 n.1 b.1,
+  good_from late (max high (recording.stamp_of capture_layout p)) ps a.1 n.1 b.1,
 )
 
 -- ---- the ending
@@ -262,7 +264,7 @@ module _ (most n : ℕ) (below : nat_eq n most ≡ false) where
 
 pub file_parses : (k : Known) (bytes : List ℕ) (most late : ℕ) (packets : List Packet) → IsBytes bytes → packets ≡ packets_for k (blocks_of k.order bytes)
     → AreReadable most late packets
-    → Parses converted_layout most late (given_at k bytes).told 0 0 (given_at k bytes).bytes packets [] (ending_for (length packets) k (blocks_of k.order bytes))
+    → Parses capture_layout most late (given_at k bytes).told 0 0 (given_at k bytes).bytes packets [] (ending_for (length packets) k (blocks_of k.order bytes))
 unfolding texts blocks_of
 file_parses k bytes most late packets fits e readable =
     let blocks = blocks_of k.order bytes in
@@ -270,7 +272,7 @@ file_parses k bytes most late packets fits e readable =
     let zero_n : n ≡ 0 + n = omega arith in
     let all : AllFit packets = subst AllFit (sym e) (blocks-fit blocks k (within (length bytes) k.order bytes fits)) in
     record {
-      complete = given-text blocks k ∙ (ap (λ (ps : List Packet). flat_map (packet_bytes converted_layout) ps) (sym e) ∙ sym (append-nil (flat_map (packet_bytes converted_layout) packets)));
+      complete = given-text blocks k ∙ (ap (λ (ps : List Packet). flat_map (packet_bytes capture_layout) ps) (sym e) ∙ sym (append-nil (flat_map (packet_bytes capture_layout) packets)));
       good = good_from late 0 packets all readable.1 readable.0;
       bounded = omega (arith, readable.2);
       ends = ap (λ (m : ℕ). Some (told_ending (given_for k blocks).told most m)) (sym zero_n)
@@ -297,21 +299,21 @@ told_short choice bytes needed pcapng e = ap header_given (given_opened choice b
 pub read_file : (choice : Choice) (bytes : List ℕ) (order : ByteOrder) (len most late : ℕ) (blocks : Blocks) (packets : List Packet) → IsBytes bytes
     → IsPcapng bytes → first_of bytes ≡ firsts.Begins order len → blocks ≡ blocks_of order (drop len bytes) → packets ≡ packets_for (first_known choice order) blocks
     → AreReadable most late packets
-    → (header_given (given_of choice bytes) ≡ Ok converted_layout)
+    → (header_given (given_of choice bytes) ≡ Ok capture_layout)
     × HoldsPackets most late (given_of choice bytes) packets (ending_for (length packets) (first_known choice order) blocks)
 read_file choice bytes order len most late blocks packets fits pcapng e these own readable =
     let k = first_known choice order in
     let rest = drop len bytes in
     let more = given_at k rest in
-    let given : given_of choice bytes ≡ followed file_header_bytes more = given_opened choice bytes (firsts.Begins order len) pcapng e in
-    let behind : drop 24 (file_header_bytes ++ more.bytes) ≡ more.bytes = drop_at file_header_bytes more.bytes 24 refl in
+    let given : given_of choice bytes ≡ followed capture_header more = given_opened choice bytes (firsts.Begins order len) pcapng e in
+    let behind : drop 24 (capture_header ++ more.bytes) ≡ more.bytes = drop_at capture_header more.bytes 24 header_size in
     let packets_are : packets ≡ packets_for k (blocks_of order rest) = own ∙ ap (packets_for k) these in
     let parse = file_parses k rest most late packets (IsBytes-drop len bytes fits) packets_are readable in
     let ending = ending_for (length packets) k (blocks_of order rest) in (
-      ap header_given given ∙ header-append more.told file_header_bytes more.bytes refl,
+      ap header_given given ∙ header-append more.told capture_header more.bytes header_size ∙ header_is_read more.told,
       subst (λ (b : Blocks). HoldsPackets most late (given_of choice bytes) packets (ending_for (length packets) k b)) (sym these)
           (subst (λ (g : Given). HoldsPackets most late g packets ending) (sym given)
-          (subst (λ (l : List ℕ). Parses converted_layout most late more.told 0 0 l packets [] ending) (sym behind) parse)),
+          (subst (λ (l : List ℕ). Parses capture_layout most late more.told 0 0 l packets [] ending) (sym behind) parse)),
     )
 
 -- a whole block at the front

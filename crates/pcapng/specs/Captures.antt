@@ -2,14 +2,14 @@
 use Rattle.std.specs.Prelude.{◌≡◌, ℕ, ◌+◌, ◌<◌, ◌≤◌, max, Bool, false, List, [], ◌∷◌, ◌++◌, length, take, drop, filter, flat_map, Ok, ◌==◌}
 use Rattle.afdx_frame.specs.Frame.{Frame, frame_with}
 use Rattle.afdx_frame.specs.declared.key.Network.{Network}
-use Rattle.pcap_io.specs.Capture.{kept_fields}
+use Rattle.pcap_io.specs.Capture.{capture_header, capture_layout, kept_fields}
 use Rattle.pcap_io.specs.Position.{Holds, start_at}
 use Rattle.pcap_io.specs.Recording.{is_file_header}
 use Rattle.pcap_io.specs.declared.layout.TheConstants.{FILE_HEADER_LEN}
 use Rattle.pcap_io.specs.declared.recording.Ending.TheVariants.{Clean}
 use Rattle.pcapng.specs.Given.{Given, header_given, plain}
 use Rattle.pcapng.specs.Handed.{given_of}
-use Rattle.pcapng.specs.Text.{converted_layout, file_header_bytes, packet_header_bytes}
+use Rattle.pcapng.specs.Text.{packet_header_bytes}
 use Rattle.pcapng.specs.declared.choice.Choice.TheVariants.{Any, Number}
 use Rattle.pcapng.specs.Blocks.{Written, capture_bytes, interface_of}
 use Rattle.pcapng.specs.Stepping.{AreWritable}
@@ -28,12 +28,12 @@ is_of number p = interface_of Networks p.frame.network == number
 -- A capture of one interface, where no interface is chosen.
 abbrev pub CaptureIsGiven : Type 0
 CaptureIsGiven = (packets : List Written) → AreWritable packets
-    → given_of Any (capture_bytes One packets) ≡ plain (file_header_bytes ++ flat_map given_packet packets)
+    → given_of Any (capture_bytes One packets) ≡ plain (capture_header ++ flat_map given_packet packets)
 
 -- A capture of both networks, of which interface 0 or 1 is chosen.
 abbrev pub NetworkIsGiven : Type 0
 NetworkIsGiven = (number : ℕ) (packets : List Written) → number < 2 → AreWritable packets
-    → given_of (Number number) (capture_bytes Networks packets) ≡ plain (file_header_bytes ++ flat_map given_packet (filter (is_of number) packets))
+    → given_of (Number number) (capture_bytes Networks packets) ≡ plain (capture_header ++ flat_map given_packet (filter (is_of number) packets))
 
 -- ---- the frames that are read of it
 
@@ -55,8 +55,8 @@ AreNoHeaders (p ∷ ps) = (is_file_header (kept_fields p.frame p.keep) ≡ false
 -- A reader of these bytes, as a tap of this network, reads the frames of these packets, and then a clean end.
 abbrev pub HoldsFrames : Network → ℕ → ℕ → Given → List Written → Type 0
 HoldsFrames network most late given packets =
-    (header_given given ≡ Ok converted_layout)
-    × Holds (start_at network converted_layout most late) given.told (drop FILE_HEADER_LEN given.bytes) (kept_frames network 0 packets) (Clean (length packets))
+    (header_given given ≡ Ok capture_layout)
+    × Holds (start_at network capture_layout most late) given.told (drop FILE_HEADER_LEN given.bytes) (kept_frames network 0 packets) (Clean (length packets))
 
 -- So of a capture its frames are read, where no more than the reader takes come in time.
 abbrev pub CaptureIsRead : Type 0

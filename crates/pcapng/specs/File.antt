@@ -13,7 +13,8 @@ use Rattle.pcapng.specs.Block.{fields_of, interface_fault, later_reason, lengths
 use Rattle.pcapng.specs.Given.{Given, followed, only}
 use Rattle.pcapng.specs.Interface.{Described, interface_of}
 use Rattle.pcapng.specs.Section.{Known, in_section, next_number, role_of, stamp_of, with_interface, with_taken}
-use Rattle.pcapng.specs.Text.{file_header_bytes, packet_header_bytes}
+use Rattle.pcap_io.specs.Capture.{capture_header}
+use Rattle.pcapng.specs.Text.{packet_header_bytes}
 use Rattle.pcapng.specs.declared.block.BlockKind.{BlockKind}
 use Rattle.pcapng.specs.declared.block.BlockKind.TheVariants as kinds
 use Rattle.pcapng.specs.declared.block.BlockStart.{BlockStart}
@@ -184,7 +185,7 @@ first_of bytes = first_with (start_of Little bytes) bytes
 abbrev pub opened : FirstSection → Known → List ℕ → Given
 opened (firsts.Needs needed) k bytes = only tolds.Nothing
 opened (firsts.Wrong fault) k bytes = only (tolds.NoHeader fault)
-opened (firsts.Begins order len) k bytes = followed file_header_bytes (given_at (in_section order k) (drop len bytes))
+opened (firsts.Begins order len) k bytes = followed capture_header (given_at (in_section order k) (drop len bytes))
 
 -- The pcap that the bytes of a pcapng file stand for.
 abbrev pub pcap_of : Known → List ℕ → Given

@@ -14,7 +14,7 @@ use Rattle.pcapng.specs.Given.{Given, followed, header_given}
 use Rattle.pcapng.specs.Handed.{given_of}
 use Rattle.pcapng.specs.Packets.{ending_for, packets_for}
 use Rattle.pcapng.specs.Section.{Known, in_section, unknown}
-use Rattle.pcapng.specs.Text.{converted_layout}
+use Rattle.pcap_io.specs.Capture.{capture_layout}
 use Rattle.pcapng.specs.declared.block.BlockStart.{BlockStart}
 use Rattle.pcapng.specs.declared.block.FirstSection.TheVariants.{Begins, Needs, Wrong}
 use Rattle.pcapng.specs.declared.choice.Choice.{Choice}
@@ -45,7 +45,7 @@ first_known choice order = in_section order (unknown choice Little)
 -- Each packet comes no more than `late` nanoseconds before the latest of those before it, whose timestamp is `high`.
 abbrev pub AreInTime : ℕ → ℕ → List Packet → Type 0
 AreInTime late high [] = Unit {0}
-AreInTime late high (p ∷ ps) = (high ≤ stamp_of converted_layout p + late) × AreInTime late (max high (stamp_of converted_layout p)) ps
+AreInTime late high (p ∷ ps) = (high ≤ stamp_of capture_layout p + late) × AreInTime late (max high (stamp_of capture_layout p)) ps
 
 -- none of them reads as a pcap file's header
 abbrev pub AreNoHeaders : List Packet → Type 0
@@ -58,12 +58,12 @@ AreReadable most late packets = AreInTime late 0 packets × AreNoHeaders packets
 
 -- after the file header what is given is these packets, and ends so
 abbrev pub HoldsPackets : ℕ → ℕ → Given → List Packet → Ending → Type 0
-HoldsPackets most late given packets ending = Parses converted_layout most late given.told 0 0 (drop FILE_HEADER_LEN given.bytes) packets [] ending
+HoldsPackets most late given packets ending = Parses capture_layout most late given.told 0 0 (drop FILE_HEADER_LEN given.bytes) packets [] ending
 
 -- A reader of what is given for a file reads the file's packets, and then its ending.
 abbrev pub FileIsRead : Type 0
 FileIsRead = (choice : Choice) (bytes : List ℕ) (order : ByteOrder) (len most late : ℕ) (blocks : Blocks) (packets : List Packet) → IsBytes bytes
     → IsPcapng bytes → first_of bytes ≡ Begins order len → blocks ≡ blocks_of order (drop len bytes) → packets ≡ packets_for (first_known choice order) blocks
     → AreReadable most late packets
-    → (header_given (given_of choice bytes) ≡ Ok converted_layout)
+    → (header_given (given_of choice bytes) ≡ Ok capture_layout)
     × HoldsPackets most late (given_of choice bytes) packets (ending_for (length packets) (first_known choice order) blocks)

@@ -6,7 +6,7 @@ ghost use Rattle.pcapng.specs.Block.{fields_of, shortest_of};
 ghost use Rattle.pcapng.specs.declared.block.BlockKind.TheVariants as kinds;
 ghost use Rattle.pcapng.specs.declared.converter.Reached.TheVariants as stages;
 ghost use Rattle.pcapng.specs.declared.block.TheConstants.{MAX_BLOCK_LEN};
-ghost use Rattle.pcapng.specs.declared.text.TheConstants.{FILE_HEADER_LEN};
+ghost use Rattle.pcap_io.specs.declared.layout.TheConstants.{FILE_HEADER_LEN};
 
 use crate::block::{
     BlockKind, BlockStart, CAPTURED_AT, FirstSection, MAX_BLOCK_LEN, PacketFields, SECTION_HEADER,
@@ -15,9 +15,12 @@ use crate::block::{
 use crate::choice::Choice;
 use crate::interface::Interface;
 use crate::section::{Role, Section};
-use crate::text::{FILE_HEADER_LEN, PACKET_HEADER_LEN, file_header, packet_header};
+use crate::text::packet_header;
 use afdx_frame::MAX_SNAPLEN;
-use pcap_io::{BadReason, ByteOrder, DeviceFault, HeaderFault, TapSource, Told, read_u32};
+use pcap_io::{
+    BadReason, ByteOrder, DeviceFault, FILE_HEADER_LEN, HeaderFault, PACKET_HEADER_LEN, TapSource,
+    Told, capture_header, read_u32,
+};
 use std::alloc::{AllocError, Global};
 
 /// How many bytes are read ahead at a time.
@@ -363,7 +366,7 @@ impl Converter {
             FirstSection::Wrong(fault) => self.end_at_header(fault),
             FirstSection::Begins { order, len } => {
                 self.section.begin(order);
-                self.header = file_header();
+                self.header = capture_header();
                 self.header_from = 0;
                 self.header_to = FILE_HEADER_LEN;
                 self.stage = Reached::Blocks;

@@ -9,8 +9,8 @@
 //! let Ok(reader) = TapReader::open(source, Network::A, 1 << 32, 0) else { return };
 //! ```
 //!
-//! A recording of any other format is handed on as it is. What pcap can't say of a pcapng recording,
-//! the codes of `pcap_io`'s private layout tell: the reader then names the fault or the reason.
+//! A recording of any other format is handed on as it is. What pcap can't say of a pcapng recording, the
+//! source tells at the end ([`Told`](pcap_io::Told)): the reader then names the fault or the reason.
 //!
 //! What the source gives is stated and proved for every recording: the pcap that a pcapng file stands for,
 //! block by block, and the bytes themselves of any other. By a law a reader of pcap reads the file's packets.
@@ -44,5 +44,5 @@ pub use packet::append_packet;
 pub use read_back::{written_capture_is_given, written_capture_is_read};
 pub use section::MAX_INTERFACES;
 pub use source::{RecordingSource, Refused};
-pub use text::{FILE_HEADER_LEN, PACKET_HEADER_LEN, file_header, packet_header};
+pub use text::packet_header;
 pub use written::{capture_is_stepped_over, packet_reads_back};

@@ -6,6 +6,7 @@ use Rattle.afdx_frame.specs.Frame.{Frame, frame_with}
 use Rattle.afdx_frame.specs.declared.bounds.TheConstants.{MAX_SNAPLEN}
 use Rattle.afdx_frame.specs.declared.key.Network.{Network}
 use Rattle.afdx_frame.specs.declared.key.Network.TheVariants.{A}
+use Rattle.pcap_io.proofs.Captures.{header_is_read, header_size}
 use Rattle.pcap_io.proofs.FileHeader.{header-append}
 use Rattle.pcap_io.proofs.PacketBytes.{IsBytes-drop, header_reads_back, length-header_bytes, number_fits}
 use Rattle.pcap_io.proofs.Parse.{IsBytes-take}
@@ -27,7 +28,7 @@ use Rattle.pcap_io.specs.declared.recording.Stage.TheVariants.{Going}
 use Rattle.pcap_io.specs.declared.told.Told.{Told}
 use Rattle.pcap_io.specs.declared.told.Told.TheVariants as tolds
 use Rattle.pcapng.specs.Given.{Given, followed, header_given, only, plain}
-use Rattle.pcapng.specs.Text.{converted_layout, file_header_bytes}
+use Rattle.pcap_io.specs.Capture.{capture_header, capture_layout}
 use Rattle.recording_files.proofs.Given.{ends_bad, ends_short, given_ending, given_part, given_start, same_ending}
 use Rattle.recording_files.proofs.Reading.{given_all, given_no_header, good_given, same_stamp, stamp_fits}
 use Rattle.recording_files.specs.Given.{end_of, given_as, given_at, given_body, given_end, given_header, given_of, header_text, part_given}
@@ -45,7 +46,7 @@ option_cases (Some x) = inl (x, refl)
 -- ---- what a reader takes of what is given
 
 abbrev ends_with : ℕ → ℕ → ℕ → ℕ → Given → Option Ending
-ends_with most late n high given = ending_at converted_layout most late given.told n high given.bytes
+ends_with most late n high given = ending_at capture_layout most late given.told n high given.bytes
 
 -- what is told alone, below the number of packets that is read
 cut_ends : (most late n high : ℕ) → nat_eq n most ≡ false → ends_with most late n high (only tolds.Cut) ≡ Some (Cut n)
@@ -67,7 +68,7 @@ bad_given : (l : Layout) (told : Told) (head more : List ℕ) (next : Given) (re
 bad_given l told head more next reason size wrong = given_ending l told (head ++ more) next (Bad 0 reason) (ends_bad l told head more reason size wrong)
 
 length-text : (h : PacketHeader) → length (header_text h) ≡ 16
-length-text h = length-header_bytes converted_layout h.seconds h.fraction h.captured_len h.original_len
+length-text h = length-header_bytes capture_layout h.seconds h.fraction h.captured_len h.original_len
 
 -- ---- a reader of it
 
@@ -105,7 +106,7 @@ full_given l told most late n high bytes next some full =
 abbrev stands : ℕ → ℕ → ℕ → ℕ → Position
 stands most late n high = record {
   network = A;
-  layout = converted_layout;
+  layout = capture_layout;
   most = most;
   late = late;
   count = n;
@@ -124,21 +125,21 @@ record GivenFields (l : Layout) (h : PacketHeader) : Type 0 where
   seconds_fit : h.seconds < 2 ^ 32
   original_len_fits : h.original_len < 2 ^ 32
 
-fields_read : (l : Layout) (h : PacketHeader) → GivenFields l h → header_fields converted_layout (header_text (given_header l h)) ≡ given_header l h
+fields_read : (l : Layout) (h : PacketHeader) → GivenFields l h → header_fields capture_layout (header_text (given_header l h)) ≡ given_header l h
 fields_read l h g =
     let k : PacketHeader = given_header l h in
     let fits = stamp_fits l.precision h.seconds h.fraction g.seconds_fit g.within in
-    header_reads_back converted_layout k.seconds k.fraction k.captured_len k.original_len (omega (arith, fits)) (omega arith) (omega (arith, g.few)) (omega (arith, g.few, g.original_len_fits))
+    header_reads_back capture_layout k.seconds k.fraction k.captured_len k.original_len (omega (arith, fits)) (omega arith) (omega (arith, g.few)) (omega (arith, g.few, g.original_len_fits))
 
 given_reason : (l : Layout) (late high : ℕ) (h : PacketHeader) (back : Bool) → GivenFields l h → nat_lt (stamp_at l h.seconds h.fraction + late) high ≡ back
-    → reason_at converted_layout late high (given_header l h) ≡ cond back (Some StampBack) None
+    → reason_at capture_layout late high (given_header l h) ≡ cond back (Some StampBack) None
 given_reason l late high h back g e =
     let k : PacketHeader = given_header l h in
     let clear : is_file_header k ≡ false = given_no_header l h g.within g.no_file_header in
     let long : nat_lt MAX_SNAPLEN h.captured_len ≡ false = le-ltb MAX_SNAPLEN h.captured_len g.few in
     let second : nat_le 1000000000 k.fraction ≡ false = lt-leb 1000000000 k.fraction (omega arith) in
-    let stamp : stamp_at converted_layout k.seconds k.fraction ≡ stamp_at l h.seconds h.fraction = omega arith in
-    let time : nat_lt (stamp_at converted_layout k.seconds k.fraction + late) high ≡ back = ap (λ (s : ℕ). nat_lt (s + late) high) stamp ∙ e in
+    let stamp : stamp_at capture_layout k.seconds k.fraction ≡ stamp_at l h.seconds h.fraction = omega arith in
+    let time : nat_lt (stamp_at capture_layout k.seconds k.fraction + late) high ≡ back = ap (λ (s : ℕ). nat_lt (s + late) high) stamp ∙ e in
     rw (clear, long, second, time) refl
 
 -- at a header that stands whole
@@ -179,15 +180,15 @@ judged l told most late n high bytes next e fits within differs long found =
               let given : given_at l told bytes next ≡ followed (header_text k) body = ap (λ (x : List ℕ). given_at l told x next) (sym whole) ∙ given_start l told head more next size fine in
               elim (which (nat_lt (stamp_at l h.seconds h.fraction + late) high)) [
                 | inl d ↦
-                    let read = ap (reason_at converted_layout late high) (fields_read l h g) ∙ given_reason l late high h true g d in
+                    let read = ap (reason_at capture_layout late high) (fields_read l h g) ∙ given_reason l late high h true g d in
                     ap ends given ∙ (bad_at_head (stands most late n high) body.told (header_text k) body.bytes StampBack (length-text k) few read ∙ ap Some (same_ending (Bad n StampBack) e (rw (a, b, c, d) at found)))
                 | inr d ↦
-                    let read = ap (reason_at converted_layout late high) (fields_read l h g) ∙ given_reason l late high h false g d in
+                    let read = ap (reason_at capture_layout late high) (fields_read l h g) ∙ given_reason l late high h false g d in
                     elim (which (nat_lt (length bytes - 16) h.captured_len)) [
                       | inl i ↦
                           let short : length more < h.captured_len = omega (arith, length-drop 16 bytes, ltb-true (length bytes - 16) h.captured_len i) in
                           let text : body ≡ plain more = given_part l told k more next short in
-                          let lacks : length more < (header_fields converted_layout (header_text k)).captured_len =
+                          let lacks : length more < (header_fields capture_layout (header_text k)).captured_len =
                           subst (λ (x : PacketHeader). length more < x.captured_len) (sym (fields_read l h g)) short in
                           ap ends (given ∙ ap (followed (header_text k)) text)
                           ∙ (cut_at_head (stands most late n high) tolds.Nothing (header_text k) more (length-text k) few read lacks ∙ ap Some (same_ending (Cut n) e (rw (a, b, c, d, i) at found)))
@@ -238,34 +239,34 @@ file_ends l told most late n high bytes next e fits within found last =
 
 -- ---- a file
 
-are_given : (l : Layout) (late high : ℕ) (rs : List Packet) → AreGood l late high rs → AreGood converted_layout late high (map (packet_given l) rs)
+are_given : (l : Layout) (late high : ℕ) (rs : List Packet) → AreGood l late high rs → AreGood capture_layout late high (map (packet_given l) rs)
 are_given l late high [] good = tt
 are_given l late high (r ∷ rs) good = (
   good_given l late high high r good.0 good.0.in_time,
-  subst (λ (s : ℕ). AreGood converted_layout late (max high s) (map (packet_given l) rs)) (sym (same_stamp l r)) (are_given l late (max high (stamp_of l r)) rs good.1),
+  subst (λ (s : ℕ). AreGood capture_layout late (max high s) (map (packet_given l) rs)) (sym (same_stamp l r)) (are_given l late (max high (stamp_of l r)) rs good.1),
 )
 
-high_given : (l : Layout) (high : ℕ) (rs : List Packet) → high_after converted_layout high (map (packet_given l) rs) ≡ high_after l high rs
+high_given : (l : Layout) (high : ℕ) (rs : List Packet) → high_after capture_layout high (map (packet_given l) rs) ≡ high_after l high rs
 high_given l high [] = refl
 high_given l high (r ∷ rs) =
-    ap (λ (s : ℕ). high_after converted_layout (max high s) (map (packet_given l) rs)) (same_stamp l r) ∙ high_given l (max high (stamp_of l r)) rs
+    ap (λ (s : ℕ). high_after capture_layout (max high s) (map (packet_given l) rs)) (same_stamp l r) ∙ high_given l (max high (stamp_of l r)) rs
 
-frame_given : (network : Network) (l : Layout) (n : ℕ) (r : Packet) → frame_of network converted_layout n (packet_given l r) ≡ frame_of network l n r
+frame_given : (network : Network) (l : Layout) (n : ℕ) (r : Packet) → frame_of network capture_layout n (packet_given l r) ≡ frame_of network l n r
 frame_given network l n r =
     let whole : max (max r.original_len (length r.bytes)) (length r.bytes) ≡ max r.original_len (length r.bytes) = omega arith in
     ap (λ (s : ℕ). frame_with network n s (max (max r.original_len (length r.bytes)) (length r.bytes)) r.bytes) (same_stamp l r)
     ∙ ap (λ (w : ℕ). frame_with network n (stamp_of l r) w r.bytes) whole
 
-frames_given : (network : Network) (l : Layout) (n : ℕ) (rs : List Packet) → frames_of network l n rs ≡ frames_of network converted_layout n (map (packet_given l) rs)
+frames_given : (network : Network) (l : Layout) (n : ℕ) (rs : List Packet) → frames_of network l n rs ≡ frames_of network capture_layout n (map (packet_given l) rs)
 frames_given network l n [] = refl
 frames_given network l n (r ∷ rs) =
     ap (λ (f : Frame). f ∷ frames_of network l (n + 1) rs) (sym (frame_given network l n r))
-    ∙ ap (λ (fs : List Frame). frame_of network converted_layout n (packet_given l r) ∷ fs) (frames_given network l (n + 1) rs)
+    ∙ ap (λ (fs : List Frame). frame_of network capture_layout n (packet_given l r) ∷ fs) (frames_given network l (n + 1) rs)
 
 -- a file's parse is that of what is given for it
 pub file_parse : (l : Layout) (most late : ℕ) (told : Told) (n high : ℕ) (bytes : List ℕ) (next : Given) (own : List Packet) (rest : List ℕ) (e : Ending) → IsBytes bytes
     → Parses l most late told n high bytes own rest e → ((m : ℕ) → e ≡ Clean m → next ≡ only tolds.Nothing)
-    → Parses converted_layout most late (given_at l told bytes next).told n high (given_at l told bytes next).bytes (map (packet_given l) own) (given_at l told rest next).bytes e
+    → Parses capture_layout most late (given_at l told bytes next).told n high (given_at l told bytes next).bytes (map (packet_given l) own) (given_at l told rest next).bytes e
 file_parse l most late told n high bytes next own rest e fits s last =
     let text : List ℕ = flat_map (packet_bytes l) own in
     let behind : drop (length text) bytes ≡ rest = ap (drop (length text)) s.complete ∙ drop_at text rest (length text) refl in
@@ -273,16 +274,16 @@ file_parse l most late told n high bytes next own rest e fits s last =
     let count : length (map (packet_given l) own) ≡ length own = length-map own (packet_given l) in
     let found = file_ends l told most late (n + length own) (high_after l high own) rest next e rest_fits s.bounded s.ends last in
     let end : Given = given_at l told rest next in
-    let given : given_at l told bytes next ≡ followed (flat_map (packet_bytes converted_layout) (map (packet_given l) own)) end =
+    let given : given_at l told bytes next ≡ followed (flat_map (packet_bytes capture_layout) (map (packet_given l) own)) end =
     ap (λ (b : List ℕ). given_at l told b next) s.complete ∙ given_all l told late high own rest next s.good in
     record {
       complete = ap (λ (g : Given). g.bytes) given;
       good = are_given l late high own s.good;
       bounded = omega (arith, count, s.bounded);
       ends =
-          ap (λ (t : Told). ending_at converted_layout most late t (n + length (map (packet_given l) own)) (high_after converted_layout high (map (packet_given l) own)) end.bytes)
+          ap (λ (t : Told). ending_at capture_layout most late t (n + length (map (packet_given l) own)) (high_after capture_layout high (map (packet_given l) own)) end.bytes)
           (ap (λ (g : Given). g.told) given)
-          ∙ (ap (λ (m : ℕ). ends_with most late (n + m) (high_after converted_layout high (map (packet_given l) own)) end) count
+          ∙ (ap (λ (m : ℕ). ends_with most late (n + m) (high_after capture_layout high (map (packet_given l) own)) end) count
           ∙ (ap (λ (m : ℕ). ends_with most late (n + length own) m end) (high_given l high own) ∙ found));
     }
 
@@ -290,11 +291,11 @@ pub file_read : FileIsRead
 file_read network file layout most late frames ending fits header held =
     let body : List ℕ = drop 24 file.bytes in
     let part : Given = given_at layout file.told body (only tolds.Nothing) in
-    let given : given_of (file ∷ []) ≡ followed file_header_bytes part = ap (λ (r : Result Layout HeaderFault). given_as First r file (only tolds.Nothing)) header in
-    let behind : drop 24 (file_header_bytes ++ part.bytes) ≡ part.bytes = drop_at file_header_bytes part.bytes 24 refl in
+    let given : given_of (file ∷ []) ≡ followed capture_header part = ap (λ (r : Result Layout HeaderFault). given_as First r file (only tolds.Nothing)) header in
+    let behind : drop 24 (capture_header ++ part.bytes) ≡ part.bytes = drop_at capture_header part.bytes 24 header_size in
     let parse = file_parse layout most late file.told 0 0 body (only tolds.Nothing) held.packets held.rest ending (IsBytes-drop 24 file.bytes fits) held.parse (λ m clean. refl) in
-    let start : Position = start_at network converted_layout most late in (
-      ap header_given given ∙ header-append part.told file_header_bytes part.bytes refl,
+    let start : Position = start_at network capture_layout most late in (
+      ap header_given given ∙ header-append part.told capture_header part.bytes header_size ∙ header_is_read part.told,
       subst (λ (g : Given). Holds start g.told (drop 24 g.bytes) frames ending) (sym given)
           (subst (λ (b : List ℕ). Holds start part.told b frames ending) (sym behind)
           (record {

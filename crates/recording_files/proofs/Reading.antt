@@ -3,6 +3,7 @@ use Rattle.std.proofs.Common.{◌≡◌, ℕ, ◌+◌, ◌*◌, ◌/◌, ◌%◌
 use Rattle.std.proofs.lemmas.Bool.{eqb-true, ne_eqb}
 use Rattle.std.proofs.lemmas.List.{append-nil, drop-drop, drop_at, take_at}
 use Rattle.std.proofs.lemmas.List.Concat.{flat_map-append}
+use Rattle.pcap_io.proofs.Captures.{header_is_read, header_size}
 use Rattle.pcap_io.proofs.FileHeader.{header-append}
 use Rattle.pcap_io.proofs.PacketBytes.{fractions_fit, good_goes_on, header-packet_bytes, header_with, length-header_bytes}
 use Rattle.pcap_io.specs.Layout.{fractions_of, nanoseconds_of}
@@ -18,7 +19,7 @@ use Rattle.pcap_io.specs.declared.layout.Precision.TheVariants.{Nanoseconds, Mic
 use Rattle.pcap_io.specs.declared.packet_header.PacketHeader.{PacketHeader}
 use Rattle.pcap_io.specs.declared.recording.Ending.TheVariants.{Clean}
 use Rattle.pcapng.specs.Laws.{AreInTime, HoldsPackets}
-use Rattle.pcapng.specs.Text.{converted_layout, file_header_bytes}
+use Rattle.pcap_io.specs.Capture.{capture_header, capture_layout}
 use Rattle.recording_files.proofs.Given.{clean_told, ends_clean, follow_both, given_ending, given_first, same_ending}
 use Rattle.recording_files.specs.Given.{end_of, file_header_of, given_as, given_at, given_file, given_header, given_next, given_of, head_of, header_text, packet_text}
 use Rattle.recording_files.specs.Laws.{AreWhole, FilesAreRead, IsWhole, packet_given}
@@ -40,7 +41,7 @@ at_any_time l late high r good = record {
 
 -- a packet that is good is given with its time, and then what follows it
 pub given_good : (l : Layout) (told : Told) (late high : ℕ) (r : Packet) (more : List ℕ) (next : Given) → IsGood l late high r
-    → given_at l told (packet_bytes l r ++ more) next ≡ followed (packet_bytes converted_layout (packet_given l r)) (given_at l told more next)
+    → given_at l told (packet_bytes l r ++ more) next ≡ followed (packet_bytes capture_layout (packet_given l r)) (given_at l told more next)
 given_good l told late high r more next good =
     let all : List ℕ = packet_bytes l r ++ more in
     let head : List ℕ = header_bytes l r.seconds r.fraction (length r.bytes) r.original_len in
@@ -59,15 +60,15 @@ given_good l told late high r more next good =
 
 -- good packets are given, and then the rest
 pub given_all : (l : Layout) (told : Told) (late high : ℕ) (rs : List Packet) (rest : List ℕ) (next : Given) → AreGood l late high rs
-    → given_at l told (flat_map (packet_bytes l) rs ++ rest) next ≡ followed (flat_map (packet_bytes converted_layout) (map (packet_given l) rs)) (given_at l told rest next)
+    → given_at l told (flat_map (packet_bytes l) rs ++ rest) next ≡ followed (flat_map (packet_bytes capture_layout) (map (packet_given l) rs)) (given_at l told rest next)
 given_all l told late high [] rest next good = refl
 given_all l told late high (r ∷ rs) rest next good =
     let more : List ℕ = flat_map (packet_bytes l) rs ++ rest in
-    let first : List ℕ = packet_bytes converted_layout (packet_given l r) in
+    let first : List ℕ = packet_bytes capture_layout (packet_given l r) in
     ap (λ (b : List ℕ). given_at l told b next) (append_assoc (packet_bytes l r) (flat_map (packet_bytes l) rs) rest)
     ∙ (given_good l told late high r more next good.0
     ∙ (ap (followed first) (given_all l told late (max high (stamp_of l r)) rs rest next good.1)
-    ∙ sym (follow_both first (flat_map (packet_bytes converted_layout) (map (packet_given l) rs)) (given_at l told rest next))))
+    ∙ sym (follow_both first (flat_map (packet_bytes capture_layout) (map (packet_given l) rs)) (given_at l told rest next))))
 
 -- ---- what is given is no file header
 
@@ -127,13 +128,13 @@ pub stamp_fits : (q : Precision) (seconds fraction : ℕ) → seconds < 2 ^ 32 �
 stamp_fits Nanoseconds seconds fraction s f = omega (arith, s, f)
 stamp_fits Microseconds seconds fraction s f = omega (arith, s, f)
 
-pub same_stamp : (l : Layout) (r : Packet) → stamp_of converted_layout (packet_given l r) ≡ stamp_of l r
+pub same_stamp : (l : Layout) (r : Packet) → stamp_of capture_layout (packet_given l r) ≡ stamp_of l r
 same_stamp l r =
     let stamp : ℕ = stamp_of l r in
     let same : stamp / 1000000000 * 1000000000 + stamp % 1000000000 * 1 ≡ stamp = omega arith in
     same
 
-pub good_given : (l : Layout) (late high low : ℕ) (r : Packet) → IsGood l late high r → low ≤ stamp_of l r + late → IsGood converted_layout late low (packet_given l r)
+pub good_given : (l : Layout) (late high low : ℕ) (r : Packet) → IsGood l late high r → low ≤ stamp_of l r + late → IsGood capture_layout late low (packet_given l r)
 good_given l late high low r good time =
     let fits = stamp_fits l.precision r.seconds r.fraction good.seconds_fit good.within_second in
     let stamp = same_stamp l r in
@@ -149,7 +150,7 @@ good_given l late high low r good time =
 -- each of the packets may be given, whenever it came
 abbrev pub AllFit : List Packet → Type 0
 AllFit [] = Unit {0}
-AllFit (p ∷ ps) = IsGood converted_layout 0 0 p × AllFit ps
+AllFit (p ∷ ps) = IsGood capture_layout 0 0 p × AllFit ps
 
 fit_given : (l : Layout) (late high : ℕ) (rs : List Packet) → AreGood l late high rs → AllFit (map (packet_given l) rs)
 fit_given l late high [] good = tt
@@ -160,7 +161,7 @@ fit_both : (ps qs : List Packet) → AllFit ps → AllFit qs → AllFit (ps ++ q
 fit_both [] qs a b = b
 fit_both (p ∷ ps) qs a b = (a.0, fit_both ps qs a.1 b)
 
-pub good_in_time : (late high : ℕ) (ps : List Packet) → AllFit ps → AreInTime late high ps → AreGood converted_layout late high ps
+pub good_in_time : (late high : ℕ) (ps : List Packet) → AllFit ps → AreInTime late high ps → AreGood capture_layout late high ps
 good_in_time late high [] fits times = tt
 good_in_time late high (p ∷ ps) fits times = (
   record {
@@ -171,13 +172,13 @@ good_in_time late high (p ∷ ps) fits times = (
     no_file_header = fits.0.no_file_header;
     in_time = times.0;
   },
-  good_in_time late (max high (stamp_of converted_layout p)) ps fits.1 times.1,
+  good_in_time late (max high (stamp_of capture_layout p)) ps fits.1 times.1,
 )
 
 -- ---- files
 
 abbrev pub texts : List Packet → List ℕ
-texts packets = flat_map (packet_bytes converted_layout) packets
+texts packets = flat_map (packet_bytes capture_layout) packets
 
 -- a file that ends clean gives its packets, and then what the next ones give
 pub whole_given : (place : WhichFile) (file next : Given) (packets : List Packet) → IsWhole file packets
@@ -201,7 +202,7 @@ next_given [] packets none = sym (ap (λ (ps : List Packet). plain (texts ps)) n
 next_given (file ∷ files) packets (own, more, w, others, all) =
     whole_given Next file (given_next files) own w
     ∙ (ap (followed (texts own)) (next_given files more others)
-    ∙ ap plain (sym (flat_map-append (packet_bytes converted_layout) own more) ∙ sym (ap texts all)))
+    ∙ ap plain (sym (flat_map-append (packet_bytes capture_layout) own more) ∙ sym (ap texts all)))
 
 pub all_fit : (files : List Given) (packets : List Packet) → AreWhole files packets → AllFit packets
 all_fit [] packets none = subst AllFit (sym none) tt
@@ -211,15 +212,15 @@ pub files_read : FilesAreRead
 files_read file files packets most late (own, more, w, others, all) times few =
     let body : List ℕ = texts packets in
     let ending = Clean (length packets) in
-    let given : given_of (file ∷ files) ≡ plain (file_header_bytes ++ body) =
+    let given : given_of (file ∷ files) ≡ plain (capture_header ++ body) =
     whole_given First file (given_next files) own w
-    ∙ (ap (λ (g : Given). followed file_header_bytes (followed (texts own) g)) (next_given files more others)
-    ∙ ap (λ (b : List ℕ). plain (file_header_bytes ++ b)) (sym (flat_map-append (packet_bytes converted_layout) own more) ∙ sym (ap texts all))) in
-    let behind : drop 24 (file_header_bytes ++ body) ≡ body = drop_at file_header_bytes body 24 refl in
+    ∙ (ap (λ (g : Given). followed capture_header (followed (texts own) g)) (next_given files more others)
+    ∙ ap (λ (b : List ℕ). plain (capture_header ++ b)) (sym (flat_map-append (packet_bytes capture_layout) own more) ∙ sym (ap texts all))) in
+    let behind : drop 24 (capture_header ++ body) ≡ body = drop_at capture_header body 24 header_size in
     let zero : 0 + length packets ≡ length packets = omega arith in (
-      ap header_given given ∙ header-append tolds.Nothing file_header_bytes body refl,
+      ap header_given given ∙ header-append tolds.Nothing capture_header body header_size ∙ header_is_read tolds.Nothing,
       subst (λ (g : Given). HoldsPackets most late g packets ending) (sym given)
-          (subst (λ (b : List ℕ). Parses converted_layout most late tolds.Nothing 0 0 b packets [] ending) (sym behind)
+          (subst (λ (b : List ℕ). Parses capture_layout most late tolds.Nothing 0 0 b packets [] ending) (sym behind)
           (record {
             complete = sym (append-nil body);
             good = good_in_time late 0 packets (all_fit (file ∷ files) packets (own, more, w, others, all)) times;

@@ -17,7 +17,7 @@ use Rattle.pcap_io.specs.declared.layout.Precision.TheVariants.{Nanoseconds, Mic
 use Rattle.pcap_io.specs.declared.packet_header.PacketHeader.{PacketHeader}
 use Rattle.pcap_io.specs.declared.told.Told.{Told}
 use Rattle.pcapng.specs.Given.{Given, followed}
-use Rattle.pcapng.specs.Text.{converted_layout}
+use Rattle.pcap_io.specs.Capture.{capture_layout}
 use Rattle.recording_files.proofs.Given.{follow_both}
 use Rattle.recording_files.proofs.Reading.{given_good}
 use Rattle.recording_files.specs.Given.{given_at}
@@ -105,7 +105,7 @@ abbrev text : ByteOrder → ℕ → ℕ → ℕ → ℕ → List ℕ
 text o seconds fraction captured original = bytes_in o 4 seconds ++ (bytes_in o 4 fraction ++ (bytes_in o 4 captured ++ bytes_in o 4 original))
 
 -- a packet that is given as it stands
-same_text : (l : Layout) (r : Packet) → IsGivenLayout l → IsPassed l r → packet_bytes converted_layout (packet_given l r) ≡ packet_bytes l r
+same_text : (l : Layout) (r : Packet) → IsGivenLayout l → IsPassed l r → packet_bytes capture_layout (packet_given l r) ≡ packet_bytes l r
 same_text l r g p =
     let stamp : ℕ = stamp_of l r in
     let n : ℕ = length r.bytes in

@@ -15,7 +15,7 @@ use Rattle.pcap_io.specs.declared.told.Told.TheVariants as tolds
 use Rattle.pcapng.specs.Given.{Given, followed, header_given, only, plain}
 use Rattle.recording_files.specs.declared.stage.WhichFile.{WhichFile}
 use Rattle.recording_files.specs.declared.stage.WhichFile.TheVariants.{First, Next}
-use Rattle.pcapng.specs.Text.{converted_layout, file_header_bytes}
+use Rattle.pcap_io.specs.Capture.{capture_header, capture_layout}
 
 -- ---- a packet
 
@@ -30,7 +30,7 @@ given_header layout h = record {
 
 -- the bytes of a header that is given
 abbrev pub header_text : PacketHeader → List ℕ
-header_text h = header_bytes converted_layout h.seconds h.fraction h.captured_len h.original_len
+header_text h = header_bytes capture_layout h.seconds h.fraction h.captured_len h.original_len
 
 -- ---- a file
 
@@ -82,7 +82,7 @@ given_body layout told h bytes next =
 
 -- the file header stands before the first file alone
 abbrev pub file_header_of : WhichFile → List ℕ
-file_header_of First = file_header_bytes
+file_header_of First = capture_header
 file_header_of Next = []
 
 -- what is told of a file that has no header

@@ -14,7 +14,7 @@ use Rattle.pcap_io.specs.declared.recording.Ending.{Ending}
 use Rattle.pcap_io.specs.declared.recording.Ending.TheVariants.{Bad, Clean}
 use Rattle.pcapng.specs.Given.{Given, header_given}
 use Rattle.pcapng.specs.Laws.{AreInTime, HoldsPackets}
-use Rattle.pcapng.specs.Text.{converted_layout}
+use Rattle.pcap_io.specs.Capture.{capture_layout}
 use Rattle.recording_files.specs.Given.{given_of}
 
 -- the packet that is given for one: its time in nanoseconds, and a length on the wire of no less than its bytes
@@ -46,7 +46,7 @@ AreWhole (file ∷ files) packets = (own more : List Packet) × IsWhole file own
 abbrev pub FilesAreRead : Type 0
 FilesAreRead = (file : Given) (files : List Given) (packets : List Packet) (most late : ℕ) → AreWhole (file ∷ files) packets
     → AreInTime late 0 packets → length packets ≤ most
-    → (header_given (given_of (file ∷ files)) ≡ Ok converted_layout)
+    → (header_given (given_of (file ∷ files)) ≡ Ok capture_layout)
     × HoldsPackets most late (given_of (file ∷ files)) packets (Clean (length packets))
 
 -- the ending is clean
@@ -56,14 +56,14 @@ IsCleanEnd ending = ⊥
 
 -- a reader of what is given reads these packets after the file header, and then this ending
 abbrev pub IsReadAs : ℕ → ℕ → Given → List Packet → Ending → Type 0
-IsReadAs most late given packets ending = (end : List ℕ) × Parses converted_layout most late given.told 0 0 (drop FILE_HEADER_LEN given.bytes) packets end ending
+IsReadAs most late given packets ending = (end : List ℕ) × Parses capture_layout most late given.told 0 0 (drop FILE_HEADER_LEN given.bytes) packets end ending
 
 -- After files that end clean a reader reads the packets of a last one, as they follow the others', and ends as it does. Unless that is clean,
 -- nothing of the files that follow it is read.
 abbrev pub LastIsRead : Type 0
 LastIsRead = (file last : Given) (files more : List Given) (packets own : List Packet) (layout : Layout) (rest : List ℕ) (most late : ℕ) (ending : Ending)
     → AreWhole (file ∷ files) packets → AreInTime late 0 packets → IsBytes last.bytes → header_given last ≡ Ok layout
-    → Parses layout most late last.told (length packets) (high_after converted_layout 0 packets) (drop FILE_HEADER_LEN last.bytes) own rest ending
+    → Parses layout most late last.told (length packets) (high_after capture_layout 0 packets) (drop FILE_HEADER_LEN last.bytes) own rest ending
     → (IsCleanEnd ending → more ≡ [])
     → IsReadAs most late (given_of (file ∷ (files ++ last ∷ more))) (packets ++ map (packet_given layout) own) ending
 
@@ -78,8 +78,8 @@ abbrev pub FileIsRead : Type 0
 FileIsRead = (network : Network) (file : Given) (layout : Layout) (most late : ℕ) (frames : List Frame) (ending : Ending) → IsBytes file.bytes
     → header_given file ≡ Ok layout
     → Holds (start_at network layout most late) file.told (drop FILE_HEADER_LEN file.bytes) frames ending
-    → (header_given (given_of (file ∷ [])) ≡ Ok converted_layout)
-    × Holds (start_at network converted_layout most late) (given_of (file ∷ [])).told (drop FILE_HEADER_LEN (given_of (file ∷ [])).bytes) frames ending
+    → (header_given (given_of (file ∷ [])) ≡ Ok capture_layout)
+    × Holds (start_at network capture_layout most late) (given_of (file ∷ [])).told (drop FILE_HEADER_LEN (given_of (file ∷ [])).bytes) frames ending
 
 -- A reader is told what is wrong with the first file's header, and that no file at all is too short for one.
 abbrev pub FaultIsTold : Type 0

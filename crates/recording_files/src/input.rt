@@ -10,9 +10,9 @@ ghost use Rattle.recording_files.specs.Input.{ReadsHeader, ReadsStart, IsOver, d
 
 use crate::stage::Packet;
 use pcap_io::{
-    BlockSource, DeviceFault, Ending, HeaderFault, Layout, PacketHeader, TapSource, Told, layout_of,
+    BlockSource, DeviceFault, Ending, FILE_HEADER_LEN, HeaderFault, Layout, PACKET_HEADER_LEN,
+    PacketHeader, TapSource, Told, layout_of,
 };
-use pcapng::{FILE_HEADER_LEN, PACKET_HEADER_LEN};
 use std::alloc::Global;
 
 /// What was drawn last of the file that is read.

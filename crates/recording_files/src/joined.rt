@@ -9,8 +9,10 @@ use crate::pending::{Pending, copy_some};
 use crate::run::{is_given_layout, move_run};
 use crate::stage::{FilesStage, Packet, WhichFile};
 use crate::supply::{FileSupply, ReadFile};
-use pcap_io::{BadReason, BlockSource, DeviceFault, Ending, HeaderFault, Layout, TapSource, Told};
-use pcapng::{FILE_HEADER_LEN, PACKET_HEADER_LEN};
+use pcap_io::{
+    BadReason, BlockSource, DeviceFault, Ending, FILE_HEADER_LEN, HeaderFault, Layout,
+    PACKET_HEADER_LEN, TapSource, Told,
+};
 use std::alloc::Global;
 
 /// The files of a supply, as one recording.

@@ -12,7 +12,7 @@
 //!
 //! Each file is a source of pcap bytes of any layout that `pcap_io` reads, as a `RecordingSource`
 //! of `pcapng` makes them of pcapng too. A file that ends clean is followed by the next one. One that
-//! ends in another way ends the recording, and the private layout of `pcap_io` tells the reader how.
+//! ends in another way ends the recording, and the source tells the reader how ([`Told`](pcap_io::Told)).
 //!
 //! What the source gives is stated and proved for files whose bytes are exposed. By laws a reader
 //! reads the packets of one file after another ([`files_are_read`]), ends as the last one does

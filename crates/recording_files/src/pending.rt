@@ -1,11 +1,11 @@
 //! A header that is given before what follows it.
 ghost use Rattle.std.specs.Prelude.{◌≡◌, ◌≤◌, min, [], drop, length, take};
-ghost use Rattle.pcapng.specs.declared.text.TheConstants.{FILE_HEADER_LEN};
+ghost use Rattle.pcap_io.specs.declared.layout.TheConstants.{FILE_HEADER_LEN};
 ghost use Rattle.recording_files.specs.Given.{file_header_of, header_text};
 
 use crate::stage::WhichFile;
-use pcap_io::PacketHeader;
-use pcapng::{FILE_HEADER_LEN, PACKET_HEADER_LEN, file_header, packet_header};
+use pcap_io::{FILE_HEADER_LEN, PACKET_HEADER_LEN, PacketHeader, capture_header};
+use pcapng::packet_header;
 
 /// Part of a header, or nothing.
 #[derive(Clone, Copy)]
@@ -69,7 +69,7 @@ impl Pending {
         ensures { waiting_of result ≡ file_header_of place }
     {
         match place {
-            WhichFile::First => Pending::first(file_header(), FILE_HEADER_LEN),
+            WhichFile::First => Pending::first(capture_header(), FILE_HEADER_LEN),
             WhichFile::Next => Pending::nothing(),
         }
     }

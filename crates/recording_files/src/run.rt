@@ -10,8 +10,9 @@ ghost use Rattle.recording_files.specs.Run.{BeginsPassed, IsGivenLayout, IsRun};
 
 use crate::pending::copy_some;
 use afdx_frame::MAX_SNAPLEN;
-use pcap_io::{BlockSource, ByteOrder, Layout, PacketHeader, Precision, TapSource};
-use pcapng::PACKET_HEADER_LEN;
+use pcap_io::{
+    BlockSource, ByteOrder, Layout, PACKET_HEADER_LEN, PacketHeader, Precision, TapSource,
+};
 use std::alloc::Global;
 
 /// Whole packets that are given as they stand, one after another.

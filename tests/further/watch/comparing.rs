@@ -1,7 +1,7 @@
 //! Runs that are compared with that on one thread.
 
 use crate::support::SOUND;
-use crate::watch::{Counts, Given, NO_FAILURE, Ran, Scripts, Sink, Way, run};
+use crate::watch::{Given, NO_FAILURE, Ran, Scripts, Sink, Way, WatchCounts, run};
 use pcap_io::Script;
 use std::process::Abort;
 use std::sync::Wait;
@@ -11,7 +11,7 @@ use std::thread::Threads;
 /// What a run over devices that never fail leaves.
 #[derive(Drop)]
 pub struct Left {
-    pub counts: Counts,
+    pub counts: WatchCounts,
     pub capture: Sink,
     pub ledger: Sink,
 }

@@ -13,7 +13,7 @@ use std::test::Fail;
 use std::thread::Threads;
 use tap_queue::RingSizes;
 use vl_config::Config;
-use watch_run::{OpenGate, RunSizes, sized_watch, sized_watch_whole};
+use watch_run::{OpenGate, Plan, RunSizes, sized_watch, sized_watch_whole};
 
 /// The lengths of rounds: of one frame, around a power of two, and the program's and a longer one.
 const ROUNDS: [usize; 7] = [1, 2, 255, 256, 257, 1024, 4096];
@@ -126,12 +126,13 @@ fn run_of<R: Threads + Wait + Sync + AllocGlobal>(
         capture,
         ledger,
     } = devices_by(alloc, given, roomy(room))?;
+    let plan = Plan::pcap(&programs);
     Ok(Ran::of(match workers {
-        None => sized_watch_whole(alloc, sizes, &config, &programs, a, b, capture, ledger),
+        None => sized_watch_whole(alloc, sizes, &config, &plan, a, b, capture, ledger),
         Some(workers) => {
             let gate = &OpenGate;
             sized_watch(
-                rt, alloc, sizes, &config, &programs, workers, a, b, capture, ledger, gate,
+                rt, alloc, sizes, &config, plan, workers, a, b, capture, ledger, gate,
             )
         }
     }))

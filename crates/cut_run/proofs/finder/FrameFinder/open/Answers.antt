@@ -1,7 +1,7 @@
 use Rattle.std.proofs.Common.{◌≤◌, inl, refl, arith, sym, subst}
 use Rattle.pcap_io.specs.Reader.{position_of, remaining_of, source_of}
 use Rattle.pcap_io.specs.declared.position.Position.{Position}
-use Rattle.cut_run.specs.Finder.{most_frames}
+use Rattle.run_fault.specs.Recording.{most_frames}
 use Rattle.cut_run.proofs.Finding.{kept_none}
 use Rattle.cut_run.proofs.finder.FrameFinder.open.Goals as goal
 

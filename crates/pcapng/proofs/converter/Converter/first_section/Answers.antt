@@ -24,5 +24,5 @@ returns-in-Begins-clause-kept c = λ l.
     let some : 12 ≤ length (unread_of v) = search rules in
     let first : first_of (unread_of v) ≡ firsts.Begins c.in-Begins.order c.in-Begins.len =
     ap (λ (b : List ℕ). first_of (slice_range b v.start v.end)) (sym c.deref.ensures.value) ∙ sym c.in-Begins.ensures.value in
-    opens_section v c.begin.new.self c.file_header-self.result c.in-Begins.order c.in-Begins.len _ l c.requires.start c.requires.given some
-    (search rules) (search rules) first c.file_header-self.ensures c.begin.ensures (omega arith)
+    opens_section v c.begin.new.self c.capture_header-self.result c.in-Begins.order c.in-Begins.len _ l c.requires.start c.requires.given some
+    (search rules) (search rules) first c.capture_header-self.ensures c.begin.ensures (omega arith)
