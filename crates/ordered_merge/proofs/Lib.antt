@@ -4,4 +4,3 @@ pub mod Following
 pub mod Merging
 pub mod Recordings
 pub mod Rising
-pub mod Runs
