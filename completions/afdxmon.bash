@@ -26,14 +26,14 @@ _afdxmon() {
     fi
     case ${COMP_WORDS[1]} in
         capture | asm | watch | debug | cut | links | report | check)
-            case $previous in
-                --late-us) _afdxmon_words 'N any' "$current"; return ;;
-                --network) _afdxmon_words 'A B' "$current"; return ;;
-                --verdict) _afdxmon_words 'discarded faults delivered cut runt oversize foreign unconfigured toolong regular excess within first next skip reset off out deliver copy both' "$current"; return ;;
-                --workers) _afdxmon_words '1 2 3 4 5 6 7 8' "$current"; return ;;
-                --around | --code | --constant | --filters | --from | --late-us | --link | --span | --to) return ;;
-                --digest | --help | --json | --ledger-only | --pcapng | --quiet | --verbose | --whole) ;;
-                -o | --*) _afdxmon_files "$current"; return ;;
+            case ${COMP_WORDS[1]}:$previous in
+                capture:--late-us | debug:--late-us) _afdxmon_words 'any' "$current"; return ;;
+                cut:--network) _afdxmon_words 'A B' "$current"; return ;;
+                cut:--verdict) _afdxmon_words 'discarded faults delivered cut runt oversize foreign unconfigured toolong regular excess within first next skip reset off out deliver copy both' "$current"; return ;;
+                watch:--workers) _afdxmon_words '1 2 3 4 5 6 7 8' "$current"; return ;;
+                *:--around | *:--code | *:--constant | *:--filters | *:--from | *:--late-us | *:--link | *:--span | *:--to) return ;;
+                *:--digest | *:--help | *:--json | *:--ledger-only | *:--pcapng | *:--quiet | *:--verbose | *:--whole) ;;
+                *:-o | *:--*) _afdxmon_files "$current"; return ;;
             esac
             ;;
     esac

@@ -21,7 +21,7 @@ complete -c afdxmon -n $capture -l filter -r -F -d 'The filter in the numeric fo
 complete -c afdxmon -n $capture -l source -r -F -d 'The filter\'s source, as `afdxmon asm` reads it'
 complete -c afdxmon -n $capture -s o -l output -r -F -d 'The capture to write, a nanosecond pcap file'
 complete -c afdxmon -n $capture -l pcapng -d 'Write the capture as pcapng'
-complete -c afdxmon -n $capture -l late-us -x -a 'N any' -d 'Take timestamps that are out of order by N microseconds, or in any order'
+complete -c afdxmon -n $capture -l late-us -x -a 'any' -d 'Take timestamps that are out of order by N microseconds, or in any order'
 complete -c afdxmon -n $capture -s v -l verbose -d 'Tell standard error, whatever it is, what a terminal is told but progress'
 complete -c afdxmon -n $capture -F
 
@@ -47,7 +47,7 @@ set -l debug '__fish_seen_subcommand_from debug'
 complete -c afdxmon -n $debug -l filter -r -F -d 'The filter in the numeric form, as `afdxmon asm` prints it'
 complete -c afdxmon -n $debug -l source -r -F -d 'The filter\'s source, as `afdxmon asm` reads it'
 complete -c afdxmon -n $debug -l tap -r -F -d 'The recording, pcap or pcapng files, or @LIST of paths'
-complete -c afdxmon -n $debug -l late-us -x -a 'N any' -d 'Take timestamps that are out of order by N microseconds, or in any order'
+complete -c afdxmon -n $debug -l late-us -x -a 'any' -d 'Take timestamps that are out of order by N microseconds, or in any order'
 complete -c afdxmon -n $debug -s v -l verbose -d 'Tell standard error, whatever it is, what a terminal is told but progress'
 
 set -l cut '__fish_seen_subcommand_from cut'

@@ -172,6 +172,9 @@ def offered(shell, options):
     for line in ("afdxmon watch --workers ", "afdxmon watch --workers="):
         workers = (word.rpartition("=")[2] for word in shell.offers(line))
         say(f"{shell.name} completes the number of {line}", differ(workers, "12345678"))
+    for command, texts in (("capture", {"any"}), ("debug", {"any"}), ("watch", set())):
+        line = f"afdxmon {command} --late-us "
+        say(f"{shell.name} completes no number of {line}", differ({word.rpartition("=")[2] for word in shell.offers(line)}, texts))
     for command in filter(None, options):
         for option in sorted(options[command] & FILE_OPTIONS):
             start = os.path.join(COMPLETIONS, "afdxmon.b")

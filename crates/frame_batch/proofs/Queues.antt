@@ -3,7 +3,7 @@ use Rattle.std.proofs.Common.{◌≡◌, ℕ, zero, suc, ◌+◌, ◌-◌, ◌<�
 use Rattle.std.proofs.Math.ListN.{drop_of_length-le}
 use Rattle.std.proofs.Math.Seq.{drop-append_seam, take-length}
 use Rattle.std.proofs.lemmas.Bool.{ltb-false, ltb-true}
-use Rattle.std.proofs.lemmas.List.{append-nil, drop-append-le, drop-drop, drop-map, length-append, length-drop, length-map, length-take, take-append-drop, take_more}
+use Rattle.std.proofs.lemmas.List.{append-nil, drop-append-le, drop-drop, drop-map, length-append, length-drop, length-map, length-take, take-append-drop, take-append-le, take_more}
 use Rattle.std.proofs.lemmas.Grind.{flat_map-append}
 use Rattle.std.proofs.lemmas.List.Sums.{prefix_len-le-length}
 use Rattle.std.proofs.lemmas.Option.{get_or_from_slice_get, slice_get-get_or, slice_get_within, slice_get-map}
@@ -11,6 +11,7 @@ use Rattle.std.specs.List.{prefix_len}
 use Rattle.std.specs.Option.{ForSome, option_map, option_map_or}
 use Rattle.afdx_frame.specs.Frame.{Frame}
 use Rattle.frame_batch.specs.Batch.{BatchState, batch_frames, record_frame}
+use Rattle.frame_batch.specs.Cursor.{IsRun}
 use Rattle.frame_batch.specs.Queue.{IsBlockOf, comes_below, count_in, queue_frames}
 use Rattle.frame_batch.specs.Round.{IsBlockAt}
 use Rattle.frame_batch.specs.declared.frame_record.FrameRecord.{FrameRecord}
@@ -152,6 +153,13 @@ pub take_first : {X : Type 0} (xs : List X) (x : X) → slice_get xs 0 ≡ Some 
 take_first [] x e = cc
 take_first (y ∷ xs) x e = cc
 
+pub take_at : {X : Type 0} (xs : List X) (k : ℕ) (x : X) → slice_get xs k ≡ Some x → take (k + 1) xs ≡ take k xs ++ x ∷ []
+take_at {X = X} xs k x e =
+    let within = slice_get_within xs k x e in
+    let there : slice_get xs k ≡ Some (get_or xs k x) = slice_get-get_or xs k x within in
+    let same : get_or xs k x ≡ x = cc in
+    take_more xs k x within ∙ ap (λ (y : X). take k xs ++ y ∷ []) same
+
 pub joined : (new mid old one same : List Frame) → new ≡ mid ++ one → mid ≡ old → one ≡ same → new ≡ old ++ same
 joined new mid old one same more kept is = more ∙ ap (λ (l : List Frame). l ++ one) kept ∙ ap (λ (l : List Frame). old ++ l) is
 
@@ -175,6 +183,21 @@ one_more_below p (y ∷ xs) (suc k) x all here t =
     let more = one_more_below p xs k x rest here t in
     ap (λ (n : ℕ). prefix_len p (take n (y ∷ xs))) at ∙ ap (λ (b : Bool). cond b (1 + prefix_len p (take (k + 1) xs)) 0) pass ∙ omega (arith, more)))
     (λ stop. (let none : 0 ≡ suc k = sym (ap (λ (b : Bool). cond b (1 + prefix_len p (take k xs)) 0) stop) ∙ all in absurd (omega (arith, none))))
+
+-- those that are counted pass
+prefix_passes : {X : Type 0} (p : X → Bool) (n : ℕ) (xs : List X) → prefix_len p (take (prefix_len p (take n xs)) xs) ≡ prefix_len p (take n xs)
+prefix_passes p zero [] = refl
+prefix_passes p zero (x ∷ xs) = refl
+prefix_passes p (suc n) [] = refl
+prefix_passes p (suc n) (x ∷ xs) =
+    by_bool (p x) (prefix_len p (take (prefix_len p (take (suc n) (x ∷ xs))) (x ∷ xs)) ≡ prefix_len p (take (suc n) (x ∷ xs)))
+    (λ pass. (let size = ap (λ (b : Bool). cond b (1 + prefix_len p (take n xs)) 0) pass in
+    let at : 1 + prefix_len p (take n xs) ≡ suc (prefix_len p (take n xs)) = omega arith in
+    ap (λ (k : ℕ). prefix_len p (take k (x ∷ xs))) (size ∙ at)
+    ∙ ap (λ (b : Bool). cond b (1 + prefix_len p (take (prefix_len p (take n xs)) xs)) 0) pass
+    ∙ ap (λ (k : ℕ). 1 + k) (prefix_passes p n xs) ∙ sym size))
+    (λ stop. (let none = ap (λ (b : Bool). cond b (1 + prefix_len p (take n xs)) 0) stop in
+    ap (λ (k : ℕ). prefix_len p (take k (x ∷ xs))) none ∙ sym none))
 
 -- those before an index pass, and the one there doesn't
 pub stops_there : {X : Type 0} (p : X → Bool) (xs : List X) (k most : ℕ) (x : X) → prefix_len p (take k xs) ≡ k → k < most → slice_get xs k ≡ Some x
@@ -302,3 +325,33 @@ goes_on bs k bound most count more b here size all few is whole =
       all = ap (prefix_len p) next ∙ both ∙ omega (arith, length-append before (batch_frames b), size, same);
       few = omega (arith, is, most_here, few);
     }
+
+-- ---- runs
+
+-- what is left at a place: the rest of its batch, and those after it
+pub split_here : (bs : List BatchState) (k at : ℕ) (b : BatchState) → slice_get bs k ≡ Some b → at ≤ length b.left
+    → drop at (queue_frames (drop k bs)) ≡ drop at (batch_frames b) ++ queue_frames (drop (k + 1) bs)
+split_here bs k at b here within =
+    let size = length-map b.left (record_frame b.block) in
+    left_here bs k at b here ∙ drop-append-le at (batch_frames b) (queue_frames (drop (k + 1) bs)) (omega (arith, within, size))
+
+pub rest_size : (b : BatchState) (at : ℕ) → length (drop at (batch_frames b)) ≡ length b.left - at
+rest_size b at = length-drop at (batch_frames b) ∙ ap (λ (n : ℕ). n - at) (length-map b.left (record_frame b.block))
+
+-- what passes of the first list, of so many at most, is a run of both
+pub run_here : (bound most n : ℕ) (xs ys : List Frame) → 0 < length xs → n ≡ prefix_len (comes_below bound) (take (min most (length xs)) xs)
+    → IsRun bound most n (xs ++ ys)
+run_here bound most n xs ys some counted =
+    let p = comes_below bound in
+    let same : n ≡ prefix_len p (take most xs) = counted ∙ ap (prefix_len p) (take_min most xs) in
+    let size = few_below p most xs in
+    record {
+      few = omega (arith, same, size);
+      below = ap (prefix_len p) (take-append-le n xs ys (omega (arith, same, size))) ∙ ap (λ (k : ℕ). prefix_len p (take k xs)) same
+          ∙ prefix_passes p most xs ∙ sym same;
+      some = λ none. stops_within p most xs ys (omega (arith, same, none, some)) ∙ sym same ∙ none;
+    }
+
+pub run_of_none : (bound most : ℕ) (left : List Frame) → left ≡ [] → IsRun bound most 0 left
+run_of_none bound most [] e = record { few = omega arith; below = refl; some = λ none. ap (prefix_len (comes_below bound)) (take_all most [] (omega arith)) }
+run_of_none bound most (f ∷ left) e = cc

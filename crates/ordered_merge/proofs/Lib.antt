@@ -4,3 +4,4 @@ pub mod Following
 pub mod Merging
 pub mod Recordings
 pub mod Rising
+pub mod Runs

@@ -237,13 +237,13 @@ first_of_first f fs l h k = insert_first f (insert_frames fs l) (each_insert_fra
 first_alone : (f : Frame) (fs : List Frame) → IsRising (f ∷ fs) → insert_frames (f ∷ fs) [] ≡ f ∷ insert_frames fs []
 first_alone f fs r = first_of_first f fs [] r.0 tt
 
-leading : (f : Frame) (fs l : List Frame) → IsRising (f ∷ fs) → IsRising l → leads (f ∷ fs) l ≡ true → insert_frames (f ∷ fs) l ≡ f ∷ insert_frames fs l
+pub leading : (f : Frame) (fs l : List Frame) → IsRising (f ∷ fs) → IsRising l → leads (f ∷ fs) l ≡ true → insert_frames (f ∷ fs) l ≡ f ∷ insert_frames fs l
 leading f fs [] r s t = first_alone f fs r
 leading f fs (g ∷ l) r s t =
     let e = before_from_test f g t in
     first_of_first f fs (g ∷ l) r.0 (e, each_weaker (IsBefore g) (IsBefore f) (λ h. before_trans f g h e) l s.0)
 
-other_leading : (fs : List Frame) (g : Frame) (l : List Frame) → IsRising fs → leads fs (g ∷ l) ≡ false → insert_frames fs (g ∷ l) ≡ g ∷ insert_frames fs l
+pub other_leading : (fs : List Frame) (g : Frame) (l : List Frame) → IsRising fs → leads fs (g ∷ l) ≡ false → insert_frames fs (g ∷ l) ≡ g ∷ insert_frames fs l
 other_leading [] g l r t = refl
 other_leading (f ∷ fs) g l r t =
     first_of_second (f ∷ fs) g l

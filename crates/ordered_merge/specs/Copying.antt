@@ -1,6 +1,9 @@
 -- The frames of both taps are copied in their one order (this project's profile).
-use Rattle.std.specs.Prelude.{◌≡◌, ℕ, ◌-◌, ◌<◌, ◌≤◌, ◌++◌, List, drop, length, take}
+use Rattle.std.specs.Prelude.{◌≡◌, ℕ, ◌+◌, ◌<◌, ◌^◌, ◌++◌, List, drop, take}
+use Rattle.std.specs.List.{AllByRecursion}
 use Rattle.afdx_frame.specs.Frame.{Frame}
+use Rattle.afdx_frame.specs.declared.key.Network.{Network}
+use Rattle.afdx_frame.specs.declared.key.Network.TheVariants.{A, B}
 use Rattle.frame_batch.specs.Round.{DraftState, draft_frames}
 use Rattle.ordered_merge.specs.Cursor.{CanCopy, tap_left}
 use Rattle.ordered_merge.specs.Order.{insert_frames}
@@ -10,18 +13,21 @@ use Rattle.ordered_merge.specs.declared.cursor.TapCursor.{TapCursor}
 abbrev pub both_left : TapCursor → TapCursor → List Frame
 both_left a b = insert_frames (tap_left b) (tap_left a)
 
--- A frame is left, and both may go on.
+-- frames of a network, of moments that fit 63 bits, as each frame's does
+abbrev pub AreOf : Network → List Frame → Type 0
+AreOf network l = AllByRecursion (λ f. (f.network ≡ network) × (f.stamp < 2 ^ 63)) l
+
+-- Both may go on.
 pub record CanCopyBoth (a b : TapCursor) (draft : DraftState) : Type 0 where
-  pub some : 0 < length (both_left a b)
   pub of_a : CanCopy a draft
   pub of_b : CanCopy b draft
+  pub frames_a : AreOf A (tap_left a)
+  pub frames_b : AreOf B (tap_left b)
 
--- The first frame that was left of both is copied: one of A or none, and else one of B.
-pub record Copies (of_a : ℕ) (a b : TapCursor) (draft : DraftState) (a2 b2 : TapCursor) (draft2 : DraftState) : Type 0 where
-  pub frames : draft_frames draft2 ≡ draft_frames draft ++ take 1 (both_left a b)
-  pub rest : both_left a2 b2 ≡ drop 1 (both_left a b)
+-- The first frames that were left of both are copied, so many of A and so many of B.
+pub record Copies (of_a of_b : ℕ) (a b : TapCursor) (draft : DraftState) (a2 b2 : TapCursor) (draft2 : DraftState) : Type 0 where
+  pub frames : draft_frames draft2 ≡ draft_frames draft ++ take (of_a + of_b) (both_left a b)
+  pub rest : both_left a2 b2 ≡ drop (of_a + of_b) (both_left a b)
   pub left_a : tap_left a2 ≡ drop of_a (tap_left a)
-  pub left_b : tap_left b2 ≡ drop (1 - of_a) (tap_left b)
-  pub few : of_a ≤ 1
-  pub can_a : CanCopy a2 draft2
-  pub can_b : CanCopy b2 draft2
+  pub left_b : tap_left b2 ≡ drop of_b (tap_left b)
+  pub can : CanCopyBoth a2 b2 draft2

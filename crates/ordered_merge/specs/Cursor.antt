@@ -1,5 +1,5 @@
 -- A place among the pending frames of one tap (this project's profile).
-use Rattle.std.specs.Prelude.{List, drop}
+use Rattle.std.specs.Prelude.{ℕ, ◌-◌, ◌^◌, List, [], ◌∷◌, drop}
 use Rattle.afdx_frame.specs.Frame.{Frame}
 use Rattle.frame_batch.specs.Cursor.{IsAmong, cursor_left}
 use Rattle.frame_batch.specs.Round.{DraftState}
@@ -20,3 +20,8 @@ pub record CanCopy (c : TapCursor) (draft : DraftState) : Type 0 where
   pub late_rises : IsRising (late_left c)
   pub rises : IsRising (tap_left c)
   pub among : IsAmong c.queue draft.blocks
+
+-- the moment of the first frame, or the last one that 64 bits have
+abbrev pub first_moment : List Frame → ℕ
+first_moment [] = 2 ^ 64 - 1
+first_moment (f ∷ l) = f.stamp

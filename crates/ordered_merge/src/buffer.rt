@@ -172,6 +172,7 @@ impl TapBuffer {
     pub(crate) fn cursor(&self) -> TapCursor<'_>
         ensures left { tap_left result ≡ self.now.frames }
         ensures can { CanCopy result (record { blocks = []; places = [] }) }
+        ensures fit { AllByRecursion (λ f. f.stamp < 2 ^ 63) self.now.frames }
     {
         TapCursor::new(self.queue.cursor(), &self.late)
     }

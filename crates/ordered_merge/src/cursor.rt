@@ -2,7 +2,7 @@
 ghost use Rattle.std.specs.Prelude.{◌≡◌, ◌+◌, ◌<◌, ◌++◌, [], Bool, List, ℕ, IfOk, OnOk, cond, drop, length, slice_get, take};
 ghost use Rattle.std.specs.Option.{option_map};
 ghost use Rattle.afdx_frame.specs.Frame.{Frame, key_of};
-ghost use Rattle.frame_batch.specs.Cursor.{cursor_left};
+ghost use Rattle.frame_batch.specs.Cursor.{IsRun, cursor_left};
 ghost use Rattle.frame_batch.specs.Round.{draft_frames};
 ghost use Rattle.ordered_merge.specs.Order.{IsRising, insert_frames, leads};
 
@@ -43,7 +43,7 @@ fn key_leads(first: Option<Key>, other: Option<Key>) -> bool
 }
 
 impl<'a> TapCursor<'a> {
-    ghost use Rattle.ordered_merge.specs.Cursor.{CanCopy, late_left, tap_left};
+    ghost use Rattle.ordered_merge.specs.Cursor.{CanCopy, first_moment, late_left, tap_left};
 
     /// At the first frame of a queue from a cursor on, and of those that came late but for so many.
     #[inline(always)]
@@ -74,16 +74,53 @@ impl<'a> TapCursor<'a> {
         TapCursor::at(queue, late, 0)
     }
 
-    /// Whether the first frame that is left of both is this one's.
+    /// The moment of the first frame that is left, in nanoseconds, or `u64::MAX` if none is.
     #[inline(always)]
-    pub(crate) fn leads(&self, other: &TapCursor<'_>) -> bool
+    pub(crate) fn first_moment(&self) -> u64
         requires late_rises { IsRising (late_left self.now) }
         requires queue_rises { IsRising (cursor_left self.now.queue) }
-        requires other_late_rises { IsRising (late_left other.now) }
-        requires other_queue_rises { IsRising (cursor_left other.now.queue) }
-        ensures { result ≡ leads (tap_left self.now) (tap_left other.now) }
+        ensures { result ≡ first_moment (tap_left self.now) }
     {
-        key_leads(self.first, other.first)
+        match self.first {
+            Some(first) => first.stamp.0,
+            None => u64::MAX,
+        }
+    }
+
+    /// Copies frames into the draft, and goes on: the first ones that came before a moment, of so many at
+    /// most. How many it copied.
+    ///
+    /// # Errors
+    ///
+    /// `AllocError` if there is no memory for them.
+    #[inline(always)]
+    pub(crate) fn copy_below(
+        &mut self,
+        alloc: Global,
+        bound: u64,
+        most: usize,
+        draft: &mut RoundDraft,
+    ) -> Result<usize, AllocError>
+        requires { CanCopy self.old draft.old }
+        ensures frames { IfOk result (λ count. draft_frames draft.new
+            ≡ draft_frames draft.old ++ take count (tap_left self.old)) }
+        ensures blocks { OnOk result ((more : List (List ℕ))
+            × (draft.new.blocks ≡ draft.old.blocks ++ more)) }
+        ensures left { IfOk result (λ count. tap_left self.new ≡ drop count (tap_left self.old)) }
+        ensures can { OnOk result (CanCopy self.new draft.new) }
+        ensures run { IfOk result (λ count. IsRun bound most count (tap_left self.old)) }
+    {
+        if self.passed == self.late.len() {
+            let mut queue = self.queue;
+            let copied = queue.copy_below(alloc, bound, most, draft)?;
+            *self = TapCursor::at(queue, self.late, self.passed);
+            return Ok(copied);
+        }
+        if most == 0 || self.first_moment() >= bound {
+            return Ok(0);
+        }
+        self.copy_first(alloc, draft)?;
+        Ok(1)
     }
 
     /// Copies the first frame that is left into the draft, and goes on to the next.
@@ -92,11 +129,7 @@ impl<'a> TapCursor<'a> {
     ///
     /// `AllocError` if there is no memory for it.
     #[inline(always)]
-    pub(crate) fn copy_first(
-        &mut self,
-        alloc: Global,
-        draft: &mut RoundDraft,
-    ) -> Result<(), AllocError>
+    fn copy_first(&mut self, alloc: Global, draft: &mut RoundDraft) -> Result<(), AllocError>
         requires some { 0 < length (tap_left self.old) }
         requires can { CanCopy self.old draft.old }
         ensures frames { OnOk result (draft_frames draft.new

@@ -4,7 +4,7 @@ ghost use Rattle.std.specs.List.{AllByRecursion};
 ghost use Rattle.afdx_frame.specs.Frame.{Frame};
 ghost use Rattle.frame_batch.specs.Batch.{batch_frames};
 ghost use Rattle.ordered_merge.specs.Buffer.{left_after};
-ghost use Rattle.ordered_merge.specs.Copying.{CanCopyBoth, Copies};
+ghost use Rattle.ordered_merge.specs.Copying.{CanCopyBoth, Copies, both_left};
 ghost use Rattle.ordered_merge.specs.Merge.{CanFetch, CanFetchAll, Wants, after_cut, cut_frames, ended, fetched, fetched_all, is_no_later, is_safe_of, new_state};
 ghost use Rattle.ordered_merge.specs.Order.{insert_frames};
 
@@ -213,7 +213,9 @@ fn merge_first(
     b: &TapBuffer,
     count: usize,
 ) -> Result<(Round, usize), AllocError>
-    requires { count ≤ length (insert_frames b.now.frames a.now.frames) }
+    requires some { count ≤ length (insert_frames b.now.frames a.now.frames) }
+    requires of_a { AllByRecursion (λ f. f.network ≡ Network.A) a.now.frames }
+    requires of_b { AllByRecursion (λ f. f.network ≡ Network.B) b.now.frames }
     ensures round { IfOk result (λ r. r.0 ≡ take count (insert_frames b.now.frames a.now.frames)) }
     ensures few { IfOk result (λ r. r.1 ≤ count) }
     ensures rest { IfOk result (λ r. insert_frames (drop (count - r.1) b.now.frames) (drop r.1 a.now.frames)
@@ -221,30 +223,37 @@ fn merge_first(
 {
     let (mut a, mut b) = (a.cursor(), b.cursor());
     let mut draft = RoundDraft::with_capacity(alloc, count)?;
-    let mut of_a = 0;
-    for _ in 0..count {
-        of_a += copy_next(alloc, &mut a, &mut b, &mut draft)?;
+    let (mut of_a, mut left) = (0, count);
+    while left > 0 {
+        let (more_of_a, more_of_b) = copy_runs(alloc, &mut a, &mut b, left, &mut draft)?;
+        of_a += more_of_a;
+        left -= more_of_a + more_of_b;
     }
     Ok((Round::of(draft), of_a))
 }
 
-/// Copies the first frame that is left of both taps. How many of the first tap's that are: one or none.
+/// Copies the first frames that are left of both taps, at most `most` and at least one: those of B that come
+/// before the first of A, and then those of A that come before the next of B. How many it copied of A, and
+/// of B.
 #[inline(always)]
-fn copy_next(
+fn copy_runs(
     alloc: Global,
     a: &mut TapCursor<'_>,
     b: &mut TapCursor<'_>,
+    most: usize,
     draft: &mut RoundDraft,
-) -> Result<usize, AllocError>
-    requires { CanCopyBoth a.old b.old draft.old }
-    ensures { IfOk result (λ of_a. Copies of_a a.old b.old draft.old a.new b.new draft.new) }
+) -> Result<(usize, usize), AllocError>
+    requires some { 0 < most }
+    requires left { 0 < length (both_left a.old b.old) }
+    requires can { CanCopyBoth a.old b.old draft.old }
+    ensures few { IfOk result (λ n. n.0 + n.1 ≤ most) }
+    ensures some { IfOk result (λ n. 0 < n.0 + n.1) }
+    ensures copied { IfOk result (λ n. Copies n.0 n.1 a.old b.old draft.old a.new b.new draft.new) }
 {
-    if b.leads(a) {
-        b.copy_first(alloc, draft)?;
-        return Ok(0);
-    }
-    a.copy_first(alloc, draft)?;
-    Ok(1)
+    let of_b = b.copy_below(alloc, a.first_moment(), most, draft)?;
+    let until = b.first_moment().saturating_add(1);
+    let of_a = a.copy_below(alloc, until, most - of_b, draft)?;
+    Ok((of_a, of_b))
 }
 
 /// The network whose greatest timestamp is less, of two alike A.

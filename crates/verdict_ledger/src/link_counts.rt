@@ -57,12 +57,13 @@ impl LinkCounts {
         count_where(&mut self.toolong, is_class(Class::TooLong, verdict.class));
         count_where(&mut self.excess, verdict.is_excess());
         count_where(&mut self.out, verdict.is_out());
-        count_where(&mut self.copy, verdict.is_copy());
-        count_where(&mut self.delivered, verdict.is_delivered());
+        self.copy = plus(self.copy, verdict.is_copy());
+        self.delivered = plus(self.delivered, verdict.is_delivered());
     }
 }
 
-/// The count, and one more where a frame counts. It never comes near 2^64: a ledger has at most
+/// The count, and one more where a frame counts, without a branch: for what no processor predicts, as
+/// which frame of a pair is the copy. It never comes near 2^64: a ledger has at most
 /// [`MAX_LINES`](crate::MAX_LINES) lines.
 #[inline(always)]
 pub fn plus(count: u64, counts: bool) -> u64
@@ -71,7 +72,8 @@ pub fn plus(count: u64, counts: bool) -> u64
     count.saturating_add(u64::from(counts))
 }
 
-/// Counts one more where a frame counts, and writes nothing where it doesn't.
+/// Counts one more where a frame counts, and writes nothing where it doesn't: for what few frames do, or
+/// nearly all.
 #[inline(always)]
 pub fn count_where(count: &mut u64, counts: bool)
     ensures { count.old < MAX_LINES → count.new ≡ count.old + cond counts 1 0 }

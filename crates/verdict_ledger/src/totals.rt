@@ -83,8 +83,8 @@ impl Totals {
         count_where(&mut self.toolong, is_class(Class::TooLong, class));
         count_where(&mut self.excess, verdict.is_excess());
         count_where(&mut self.out, verdict.is_out());
-        count_where(&mut self.copy, verdict.is_copy());
-        count_where(&mut self.delivered, verdict.is_delivered());
+        self.copy = plus(self.copy, verdict.is_copy());
+        self.delivered = plus(self.delivered, verdict.is_delivered());
         count_filters(&mut self.filters, mask);
     }
 }
