@@ -21,7 +21,7 @@ returns c = λ entries e few judged kept same.
     let out = counted (λ (x : Entry). is_out x.verdict) entries e _ _ _ few (ap (λ (k : LinkCounts). k.out) same)
     (c.is_out.ensures ∙ ap is_out judged) c.count_where-5.ensures in
     let copy = counted (λ (x : Entry). is_copy x.verdict) entries e _ _ _ few (ap (λ (k : LinkCounts). k.copy) same)
-    (c.is_copy.ensures ∙ ap is_copy judged) c.count_where-6.ensures in
+    (c.is_copy.ensures ∙ ap is_copy judged) c.plus-self.ensures in
     let delivered = counted (λ (x : Entry). is_delivered x.verdict) entries e _ _ _ few (ap (λ (k : LinkCounts). k.delivered) same)
-    (c.is_delivered.ensures ∙ ap is_delivered judged) c.count_where-7.ensures in
+    (c.is_delivered.ensures ∙ ap is_delivered judged) c.plus-self-2.ensures in
     cc

@@ -32,8 +32,8 @@ returns c = λ entries e few judged kept masked same.
     let out = counted (λ (x : Entry). is_out x.verdict) entries e _ _ _ few (ap (λ (t : Totals). t.out) same)
     (c.is_out.ensures ∙ ap is_out judged) c.count_where-10.ensures in
     let copy = counted (λ (x : Entry). is_copy x.verdict) entries e _ _ _ few (ap (λ (t : Totals). t.copy) same)
-    (c.is_copy.ensures ∙ ap is_copy judged) c.count_where-11.ensures in
+    (c.is_copy.ensures ∙ ap is_copy judged) c.plus-self.ensures in
     let delivered = counted (λ (x : Entry). is_delivered x.verdict) entries e _ _ _ few (ap (λ (t : Totals). t.delivered) same)
-    (c.is_delivered.ensures ∙ ap is_delivered judged) c.count_where-12.ensures in
+    (c.is_delivered.ensures ∙ ap is_delivered judged) c.plus-self-2.ensures in
     let filters = c.count_filters.ensures entries e few masked (ap (λ (t : Totals). t.filters) same) in
     totals_by (entries ++ e ∷ []) _ _ _ _ _ _ _ _ _ _ _ _ _ frames accepted cut runt oversize foreign unconfigured toolong excess out copy delivered filters
