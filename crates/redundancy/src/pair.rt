@@ -70,17 +70,11 @@ impl Pair {
         ensures none_later { NoneLater self.new stamp.0 }
     {
         let index = sn as usize;
-        let latest = self.latest[index];
-        let copy = on && is_copy(latest, skew, network, stamp);
-        // Without a branch on `copy`, which no processor predicts: networks take turns at random.
-        self.latest[index] = if copy {
-            latest
-        } else {
-            Some(Delivery { network, stamp })
-        };
-        if copy {
-            Redundancy::Copy
-        } else if on {
+        if on && is_copy(self.latest[index], skew, network, stamp) {
+            return Redundancy::Copy;
+        }
+        self.latest[index] = Some(Delivery { network, stamp });
+        if on {
             Redundancy::Deliver
         } else {
             Redundancy::Both
