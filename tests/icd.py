@@ -48,13 +48,14 @@ def written(rows, heads=HEADS, **how):
 
 def seen_values(frames, bag, both):
     """What the frames say: of BAG and jitter only where there are intervals, of integrity where a number follows or doesn't, of
-    redundancy where both networks are recorded, and of skew where there are copies."""
+    redundancy where both networks are recorded, and of skew where there are copies. The size is that of the longest frame, and not
+    a draft's, which is rounded up."""
     if not frames:
         return {}
     sides = sides_of(frames)
     values, at_bag = estimate(frames), estimate(frames, bag * MS)
     gaps = any(side.gaps for side in sides)
-    found = {"smax": values["smax"]}
+    found = {"smax": max(side.size for side in sides) + 4}
     if gaps:
         found.update(bag_ms=values["bag_ms"], jitter_us=at_bag["jitter_us"], integrity=values["integrity"])
     if both:
@@ -229,7 +230,7 @@ def forms(desk):
 def recorded(desk):
     """Documents and recordings of the same links: what one has and the other, within and beyond."""
     chance = random.Random(33)
-    known = [(10, 4 * MS, 200), (20, 8 * MS, 640), (30, 128 * MS, 1514), (40, MS, 60)]
+    known = [(10, 4 * MS, 200), (20, 8 * MS, 640), (30, 128 * MS, 1514), (40, MS, 60), (50, 2 * MS, 61), (60, 16 * MS, 1513)]
     a, b = sent(chance, known, 60, skew=90_000)
     exact = {}
     for row_id, bag, size in known:
