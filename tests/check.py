@@ -313,8 +313,8 @@ def nearly_all(count, of):
 class Reference:
     """What the rules say of two recordings, each a list of (stamp, length, bytes), and a table of links."""
 
-    def __init__(self, links, a, b, constant=50331648):
-        self.taps, self.links, self.constant = {"A": a, "B": b}, links, constant
+    def __init__(self, links, a, b, constant=50331648, given="AB"):
+        self.taps, self.links, self.constant, self.given = {"A": a, "B": b}, links, constant, given
         self.foreign, self.long, self.unlisted, self.by_link = {}, 0, {}, {link["id"]: [] for link in links}
         frames = sorted((stamp, network, k) for network, tap in self.taps.items() for k, (stamp, _, _) in enumerate(tap))
         for stamp, network, k in frames:
@@ -375,8 +375,15 @@ class Reference:
         spans = [(min(tap)[0], max(tap)[0]) for tap in self.taps.values() if tap]
         return None if len(spans) < 2 else not (spans[0][1] < spans[1][0] or spans[1][1] < spans[0][0])
 
+    def empty(self):
+        """The networks whose recording has no frame, where the other's has some; both are given."""
+        return [network for network, tap in self.taps.items() if not tap] if any(self.taps.values()) and len(self.given) == 2 else []
+
     def questions(self):
-        out = []
+        out = [
+            f"was network {network} recorded? Its recording has no frame, that of the other has some: look at its tap, or leave the recording out"
+            for network in self.empty()
+        ]
         if self.same():
             out.append("are --a and --b one recording? All their frames are the same")
         else:
@@ -446,7 +453,7 @@ def expected(config, links, recordings, constant=50331648, late=0, kinds=()):
         taps[network], ending = parse(recording, late)
         text += network_line(network, path, recording, taps[network], ending, dict(kinds).get(network))
         faults += ending.startswith("bad")
-    about = Reference(links, taps["A"], taps["B"], constant)
+    about = Reference(links, taps["A"], taps["B"], constant, recordings)
     text += {True: "overlap: the recordings overlap in time\n", False: "overlap: none\n", None: ""}[about.overlap()]
     questions = about.questions()
     text += "".join(f"question: {question}\n" for question in questions) + about.notes()
@@ -499,7 +506,10 @@ def pairs():
     yield "no overlap, and other frames", links, file_of(a), file_of(sent(random.Random(5), links, 40)[1], 10**12)
     yield "network A alone", links, file_of(a), None
     yield "network B alone", links, None, file_of(b)
-    yield "an empty recording", links, file_of(a), header()
+    yield "an empty recording of network B", links, file_of(a), header()
+    yield "an empty recording of network A", links, header(), file_of(b)
+    yield "an empty recording alone", links, header(), None
+    yield "a recording whose one frame isn't whole", links, file_of(a), header() + record(b[0][0], frame(9, 60, 1), original=100)
     yield "no frame at all", links, header(), header()
     yield "links that no frame names", links + [{**links[0], "id": (links[0]["id"] + 1) % 65536, "name": "none"}], file_of(a), file_of(b)
     yield "links that the table lacks", links[:2], file_of(a), file_of(b)

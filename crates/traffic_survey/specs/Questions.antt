@@ -58,6 +58,16 @@ pub record Appends (old new : List Question) (Asks : List Question → Type 0) :
 abbrev pub asked_if : Bool → Question → List Question
 asked_if holds asked = if holds then asked ∷ [] else []
 
+-- one recording has no frame, and that of the other network has some
+abbrev pub empty_question : Option Reach → Option Reach → List Question
+empty_question None (Some b) = question.Empty A ∷ []
+empty_question (Some a) None = question.Empty B ∷ []
+empty_question None None = []
+empty_question (Some a) (Some b) = []
+
+abbrev pub of_empty : Look → List Question
+of_empty look = if look.both then empty_question look.a look.b else []
+
 -- whose recordings these are
 abbrev pub of_networks : TapTally → TapTally → Option Overlap → List Question
 of_networks a b overlap =
@@ -181,6 +191,10 @@ pub record AsksClocks (pairs : List (VirtualLink × LinkTally)) (overlap : Optio
 abbrev pub is_settled : TapTally → TapTally → Bool
 is_settled a b = (has_checks a || has_checks b) || are_same a b
 
+-- what is asked of the recordings
+abbrev pub of_recordings : Inputs → Look → List Question
+of_recordings inputs look = of_empty look ++ of_networks inputs.a inputs.b (overlap_in look)
+
 -- what looks wrong
 pub record AreQuestions (inputs : Inputs) (look : Look) (questions : List Question) : Type 0 where
   pub frames : List Question
@@ -188,4 +202,4 @@ pub record AreQuestions (inputs : Inputs) (look : Look) (questions : List Questi
   pub frames_are : AsksFrames inputs.a inputs.b (constants_of inputs) frames
   pub settled : is_settled inputs.a inputs.b ≡ true → clocks ≡ []
   pub open_is : is_settled inputs.a inputs.b ≡ false → AsksClocks (pairs_in inputs) (overlap_in look) clocks
-  pub are : questions ≡ of_networks inputs.a inputs.b (overlap_in look) ++ (frames ++ (of_classes inputs.a inputs.b ++ clocks))
+  pub are : questions ≡ of_recordings inputs look ++ (frames ++ (of_classes inputs.a inputs.b ++ clocks))

@@ -5,7 +5,7 @@ ghost use Rattle.std.specs.Prelude.{◌≡◌, ◌&&◌, ◌||◌, ◌++◌, not
 ghost use Rattle.traffic_survey.specs.Decide.{is_nearly_all};
 ghost use Rattle.traffic_survey.specs.Parts.{constants_of, pairs_in};
 ghost use Rattle.traffic_survey.specs.Taps.{are_same};
-ghost use Rattle.traffic_survey.specs.Questions.{Appends, AreQuestions, AsksClocks, AsksFrames, IsDifference, IsMostCommon, are_many_cut, asked_if, cut_on, has_checks, is_over_half, meetings_of, of_classes, of_networks, option_list, overlap_in, pairs_of};
+ghost use Rattle.traffic_survey.specs.Questions.{Appends, AreQuestions, AsksClocks, AsksFrames, IsDifference, IsMostCommon, are_many_cut, asked_if, cut_on, has_checks, is_over_half, meetings_of, of_classes, of_empty, of_networks, option_list, overlap_in, pairs_of};
 
 use crate::clocks::{Meeting, most_supported, support};
 use crate::decide::{
@@ -32,6 +32,8 @@ pub struct Difference {
 /// What looks wrong.
 #[derive(Clone, Copy)]
 pub enum Question {
+    /// The recording of a network has no frame, and that of the other has some.
+    Empty(Network),
     /// Both networks' recordings have the same frames.
     SameRecording,
     /// The source addresses name other networks.
@@ -79,6 +81,8 @@ pub enum Question {
 pub struct Look {
     pub a: Option<Reach>,
     pub b: Option<Reach>,
+    /// Is there a recording of each network?
+    pub both: bool,
 }
 
 impl Look {
@@ -205,6 +209,18 @@ fn most_common(constants: &[Constant]) -> Option<Constant>
         }
     }
     most
+}
+
+/// Whether one recording of two has no frame.
+fn ask_of_empty(questions: &mut Vec<Question>, look: Look) -> Result<(), AllocError>
+    ensures { OnOk result (questions.new.items ≡ questions.old.items ++ of_empty look) }
+{
+    let empty = match (look.a, look.b) {
+        (None, Some(_)) => Network::A,
+        (Some(_), None) => Network::B,
+        _ => return Ok(()),
+    };
+    ask_if(questions, look.both, Question::Empty(empty))
 }
 
 /// Whose recordings these are.
@@ -349,6 +365,7 @@ pub fn questions_of(
     let mut questions = Vec::new(alloc);
     let (a, b) = (inputs.tap(Network::A), inputs.tap(Network::B));
     let overlap = look.overlap();
+    ask_of_empty(&mut questions, look)?;
     ask_of_networks(&mut questions, a, b, overlap)?;
     let has_checks = ask_of_frames(&mut questions, inputs)?;
     ask_of_classes(&mut questions, a, b)?;
