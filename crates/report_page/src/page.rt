@@ -34,11 +34,20 @@ fn push_recording<'x>(page: &mut Page, word: &'x str, file: Option<&'x Recording
         return;
     };
     let spans = file.first_utc.is_some() && file.last_utc.is_some();
-    fill!(page; text::FILE; word = Text(word), path = Given(&file.path), spans = flag(spans),
-        first = given_if(&file.first_utc), last = given_if(&file.last_utc),
+    let files = match &file.files {
+        Some(files) => files.as_slice(),
+        None => &[],
+    };
+    let more = (files.len() as u64).saturating_sub(1);
+    fill!(page; text::FILE; word = Text(word), path = Given(&file.path), one = flag(more == 1),
+        more = Number(if more > 1 { more } else { 0 }), spans = flag(spans), first = given_if(&file.first_utc), last = given_if(&file.last_utc),
         bytes = Grouped(file.bytes.unwrap_or(0)), frames = Grouped(file.frames.unwrap_or(0)),
         counted = flag(file.frames.is_some()), end = given_if(&file.end), reason = given_if(&file.reason),
         sha256 = given_if(&file.sha256));
+    for (at, file) in files.iter().enumerate() {
+        fill!(page; text::ONE_FILE; word = Text(word), number = Number(at as u64 + 1),
+            path = Given(&file.path), bytes = Grouped(file.bytes), sha256 = given_if(&file.sha256));
+    }
 }
 
 /// Appends the program that ran, its command line, and its files, if they are known.

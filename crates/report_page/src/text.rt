@@ -82,9 +82,14 @@ pub const RUN: &str = "<p class=\"of\">$name$ $version$ (commit $commit$): <code
 
 /// A file of the run. The facts after its size are those of a recording.
 pub const FILE: &str = "\
-<br/>$word$ <b>$path$</b>: $bytes$ bytes$?counted$, $frames$ frames$/$\
+<br/>$word$ <b>$path$</b>$?one$ and 1 more file$/$$?more$ and $more$ more files$/$: \
+$bytes$ bytes$?counted$, $frames$ frames$/$\
 $?spans$ from $first$ to $last$$/$$?end$, ends $end$$/$$?reason$ ($reason$)$/$\
 $?sha256$, SHA-256 <code>$sha256$</code>$/$";
+
+/// A file of a recording in several, where its digest is known.
+pub const ONE_FILE: &str = "\
+$?sha256$<br/>$word$, file $number$ <b>$path$</b>: $bytes$ bytes, SHA-256 <code>$sha256$</code>$/$";
 
 /// What the page says where it has no manifest, and where it has one.
 pub const NOT_TIED: &str = "Table and ledger were not tied: no manifest of the run was given. ";
