@@ -2,12 +2,12 @@
 
 use crate::findings::push_findings;
 use crate::gaps::{is_lower_bound, missing_in_silences, silence_of};
-use crate::numbers::{quotient, share};
+use crate::numbers::quotient;
 use crate::rows::{push_strips, push_timeline};
 use crate::tables::{push_comparison, push_links};
 use crate::text;
 use crate::view::{DISCARDS, SIGNS, View, greatest_skew};
-use crate::writer::Part::{self, Both, Duration, Given, Grouped, Number, Tenths, Text, Utc};
+use crate::writer::Part::{self, Both, Duration, Given, Grouped, Number, Percent, Text, Utc};
 use crate::writer::{Named, Page, Pair, flag};
 use afdx_frame::Network::{self, A, B};
 use ledger_report::Anomaly::{Alone, Cut, Late, Lost};
@@ -224,7 +224,7 @@ fn parts_of(view: &View<'_>, manifest: Option<&Manifest>) -> [Named<'static>; 30
         links, trouble, notice, silent, clean, frames = Grouped(all.frames),
         pair = Both(Pair(networks.a.frames, networks.b.frames)), delivered = Grouped(all.delivered),
         copies = Grouped(all.copy), discards = Grouped(discards),
-        tenths = Tenths(share(discards, 1000, all.frames.max(1))), bound = flag(bound), lost = Both(lost),
+        share = Percent(discards, all.frames.max(1)), bound = flag(bound), lost = Both(lost),
         missing = flag(lost.sum() > 0 || about.sum() > 0 || least.sum() > 0), about = Both(about),
         least = Both(least), lost_cut = Both(lost.min(cut)), alone = Both(alone),
         alone_cut = Both(alone.min(Pair(cut.1, cut.0))), late = Grouped(view.total(Late).sum()),
