@@ -313,8 +313,8 @@ def nearly_all(count, of):
 class Reference:
     """What the rules say of two recordings, each a list of (stamp, length, bytes), and a table of links."""
 
-    def __init__(self, links, a, b, constant=50331648):
-        self.taps, self.links, self.constant = {"A": a, "B": b}, links, constant
+    def __init__(self, links, a, b, constant=50331648, given="AB"):
+        self.taps, self.links, self.constant, self.given = {"A": a, "B": b}, links, constant, given
         self.foreign, self.long, self.unlisted, self.by_link = {}, 0, {}, {link["id"]: [] for link in links}
         frames = sorted((stamp, network, k) for network, tap in self.taps.items() for k, (stamp, _, _) in enumerate(tap))
         for stamp, network, k in frames:
@@ -350,33 +350,42 @@ class Reference:
         return nearly_all(sum(zlib.crc32(data[:-4]).to_bytes(4, "little") == data[-4:] for data in whole), len(whole))
 
     def pairs(self):
-        """Frames of A and B and copies, of the links with redundancy management on, and the greatest SkewMax."""
+        """Frames of A and B and copies, of the links with redundancy management on."""
         on = [link for link in self.links if link["redundancy"]]
         count = lambda network: sum(len(self.of(link["id"], network)) for link in on)
         copies = sum(copies_within(self.by_link[link["id"]], link["skew_us"] * 1000) for link in on)
-        return count("A"), count("B"), copies, max((link["skew_us"] * 1000 for link in on), default=0)
+        return count("A"), count("B"), copies
 
-    def difference(self, skew):
-        """How far B's clock is ahead, by most links, and how many say so."""
-        apart = []
+    def difference(self):
+        """How far B's clock is ahead, by most of the links whose pair is further apart than their own SkewMax, how many say so, and how
+        many links have a pair."""
+        apart, met_links = [], 0
         for link in sorted(self.links, key=lambda one: one["id"]):
             if not link["redundancy"]:
                 continue
             a, b = self.of(link["id"], "A")[:32], self.of(link["id"], "B")[:32]
             met = next(((stamp - first) for stamp, number in b for first, same in a if same == number), None)
-            apart += [] if met is None else [met]
+            met_links += met is not None
+            apart += [] if met is None or abs(met) <= link["skew_us"] * 1000 else [met]
         if not apart:
             return None
         support = [sum(abs(one - other) <= 5 * MS for other in apart) for one in apart]
         best = apart[support.index(max(support))]
-        return (best, max(support), len(apart)) if 2 * max(support) >= len(apart) and abs(best) > skew else None
+        return (best, max(support), met_links) if 2 * max(support) >= met_links else None
 
     def overlap(self):
         spans = [(min(tap)[0], max(tap)[0]) for tap in self.taps.values() if tap]
         return None if len(spans) < 2 else not (spans[0][1] < spans[1][0] or spans[1][1] < spans[0][0])
 
+    def empty(self):
+        """The networks whose recording has no frame, where the other's has some; both are given."""
+        return [network for network, tap in self.taps.items() if not tap] if any(self.taps.values()) and len(self.given) == 2 else []
+
     def questions(self):
-        out = []
+        out = [
+            f"was network {network} recorded? Its recording has no frame, that of the other has some: look at its tap, or leave the recording out"
+            for network in self.empty()
+        ]
         if self.same():
             out.append("are --a and --b one recording? All their frames are the same")
         else:
@@ -410,10 +419,10 @@ class Reference:
         return out
 
     def clocks(self):
-        a, b, copies, skew = self.pairs()
+        a, b, copies = self.pairs()
         if not (a and b and 2 * copies < a and 2 * copies < b):
             return []
-        told = self.difference(skew)
+        told = self.difference()
         if told is None and not (copies == 0 and self.overlap()):
             return []
         text = "are the clocks of the taps apart? Hardly a frame is a copy within its SkewMax."
@@ -446,7 +455,7 @@ def expected(config, links, recordings, constant=50331648, late=0, kinds=()):
         taps[network], ending = parse(recording, late)
         text += network_line(network, path, recording, taps[network], ending, dict(kinds).get(network))
         faults += ending.startswith("bad")
-    about = Reference(links, taps["A"], taps["B"], constant)
+    about = Reference(links, taps["A"], taps["B"], constant, recordings)
     text += {True: "overlap: the recordings overlap in time\n", False: "overlap: none\n", None: ""}[about.overlap()]
     questions = about.questions()
     text += "".join(f"question: {question}\n" for question in questions) + about.notes()
@@ -496,10 +505,19 @@ def pairs():
     yield "microseconds", links, file_of(a, unit=1000), file_of(b, layout=">", unit=1000)
     for shift in (3 * 10**9, -250 * MS, 7_200 * 10**9, -1_100_000, 30 * MS):
         yield f"the clock of B {shift} ns ahead", links, file_of(a), file_of(b, shift)
+    nine = [{**link, "redundancy": True} for link in links_of(chance, 9)]
+    a9, b9 = sent(chance, nine, 60)
+    for wide in range(10):
+        mixed = [{**link, "skew_us": 5000 if k < wide else 2000} for k, link in enumerate(nine)]
+        for shift in (2_500_000, -2_500_000, 5_500_000):
+            yield f"the clock of B {shift} ns ahead, {wide} of 9 links with a SkewMax of 5 ms", mixed, file_of(a9), file_of(b9, shift)
     yield "no overlap, and other frames", links, file_of(a), file_of(sent(random.Random(5), links, 40)[1], 10**12)
     yield "network A alone", links, file_of(a), None
     yield "network B alone", links, None, file_of(b)
-    yield "an empty recording", links, file_of(a), header()
+    yield "an empty recording of network B", links, file_of(a), header()
+    yield "an empty recording of network A", links, header(), file_of(b)
+    yield "an empty recording alone", links, header(), None
+    yield "a recording whose one frame isn't whole", links, file_of(a), header() + record(b[0][0], frame(9, 60, 1), original=100)
     yield "no frame at all", links, header(), header()
     yield "links that no frame names", links + [{**links[0], "id": (links[0]["id"] + 1) % 65536, "name": "none"}], file_of(a), file_of(b)
     yield "links that the table lacks", links[:2], file_of(a), file_of(b)

@@ -300,6 +300,17 @@ def empty_and_many(folder):
     say("report: 4096 links, half in trouble: page below 1.2 MB", page_fault(table, ledger))
 
 
+def shares(folder):
+    """The share of frames that are discarded, in per cent: rounded to one decimal, and below a tenth to the first digit."""
+    for wrong, count, shown in ((0, 5, "0.0"), (1, 3, "33.3"), (2, 3, "66.7"), (3, 3, "100.0"), (1, 1000, "0.1"), (3, 2000, "0.2"), (1, 1001, "0.10"),
+                                (1, 2000, "0.05"), (7, 19_331, "0.04"), (1, 12_000, "0.008"), (0, 0, "0.0")):
+        frames = [(i * STEP, OF_NO_LINK if i < wrong else frame(10, 60, i % 255 + 1)) for i in range(count)]
+        table, ledger, _ = ledger_in(folder, table_of(one_link(), ()), {"A": frames, "B": []})
+        page = report(table, ledger).stdout.decode()
+        tile = f'<h3>Discarded</h3><p class="big">{wrong}<small> = {shown} %</small>'
+        say(f"report: {wrong} of {count} frames discarded", "" if tile in page else page.partition("<h3>Discarded")[2][:80])
+
+
 def unfinished(folder):
     """What stands of a ledger whose run was stopped: whole lines alone, the beginning of one more, and nothing."""
     chance = random.Random(4)
@@ -399,6 +410,7 @@ def cases():
         silences_of_one_network(folder)
         at_the_bounds(folder)
         empty_and_many(folder)
+        shares(folder)
         unfinished(folder)
         broken(folder)
         in_a_browser(folder)

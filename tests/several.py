@@ -4,6 +4,7 @@ Expected ledgers and captures are those of the slow analyser over the whole reco
 cuts come from editcap, dumpcap's companion, and tcpdump, where they are there.
 """
 import glob
+import hashlib
 import json
 import os
 import random
@@ -329,7 +330,7 @@ def lists(desk):
 
 
 def manifests(desk):
-    """The manifest has each file that was read."""
+    """The manifest has each file that was read, and the page's head says how many there are, and has the digest of each."""
     desk.lay(config=TABLE, filter=EVERY)
     paths = lay(desk.directory, "three", THREE)
     path = os.path.join(desk.directory, "run.json")
@@ -340,6 +341,17 @@ def manifests(desk):
     found = (record_of_a["path"], record_of_a["bytes"], record_of_a["frames"], files)
     expected = (paths[0], sum(map(len, THREE)), 60, [(path, len(content)) for path, content in zip(paths, THREE)])
     say("several: manifest", difference(ran, SUCCESS, "", b"") or ("" if found == expected else repr(found)))
+    for count, more in ((1, ""), (2, " and 1 more file"), (3, " and 2 more files")):
+        for option in ((), ("--digest",)):
+            desk.watch("--a", *paths[:count], "--manifest", path, *option, a=None, b=None, capture=None, filter=None)
+            ran = run(["report", "--config", desk.paths["config"], "--ledger", desk.paths["ledger"], "--manifest", path], stdout=subprocess.PIPE)
+            head = ran.stdout.decode().partition('<p class="key">')[0]
+            fits = re.search(f"<br/>A <b>{paths[0]}</b>{more}: {sum(map(len, THREE[:count])):,} bytes, {20 * count} frames from ".replace(",", "&#8239;", 1), head)
+            digests = [hashlib.sha256(content).hexdigest() for content in THREE[:count]] if option else []
+            told = re.findall("<br/>A, file ([0-9]+) <b>([^<]*)</b>: ([0-9]+) bytes, SHA-256 <code>([0-9a-f]+)</code>", head)
+            wanted = [(str(n + 1), paths[n], str(len(THREE[n])), digest) for n, digest in enumerate(digests)] if count > 1 else []
+            alone = count > 1 or head.count(f"clean, SHA-256 <code>{''.join(digests)}</code>") == len(digests)
+            say(f"several: the page's head, {count} files {' '.join(option)}", "" if fits and alone and told == wanted else head[-1500:])
 
 
 def pipes(desk):

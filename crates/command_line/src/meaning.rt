@@ -394,7 +394,8 @@ fn icd_advice(fault: IcdFault) -> &'static str {
             "the first row has the columns' heads: id, and any of name, bag_ms, jitter_us, smax, \
              integrity, redundancy, skew_us"
         }
-        IcdFault::Cells { .. } => "the row has more or fewer cells than the first",
+        IcdFault::Cells { .. } =>
+            "the row has more or fewer cells than the first, or a quote that isn't closed",
         IcdFault::Value {
             column: Key::Integrity | Key::Redundancy,
             ..

@@ -230,6 +230,7 @@ fn tell_inputs(
     let look = Look {
         a: reach_of(passed.a),
         b: reach_of(passed.b),
+        both: passed.a.is_some() && passed.b.is_some(),
     };
     let questions = all_questions(rt.alloc(), inputs, look)?;
     let answer = Answer {

@@ -1,2 +1,3 @@
 mod MoreHeads
 mod MoreRows
+mod SameRows

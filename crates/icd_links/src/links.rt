@@ -11,7 +11,7 @@ use crate::columns::Columns;
 use crate::fault::IcdFault;
 use crate::link::IcdLink;
 use crate::row::{RowFault, is_blank, read_link};
-use crate::rows::{fault_of, line_of, read_rows};
+use crate::rows::{closed_rows, line_of};
 use afdx_frame::VlId;
 use csv::StringRecord;
 use std::alloc::Global;
@@ -37,13 +37,14 @@ impl IcdLinks {
     ///
     /// # Errors
     ///
-    /// Of a row of another length than the first, wherever it stands; then of the heads; then row by row of
-    /// the first cell that has none of its column's values, of an identifier and of a name that an earlier
-    /// row has, and of the row after the first [`MAX_LINKS`]. `Memory` if there is none.
+    /// Of a row of another length than the first or with a quote that isn't closed, wherever it stands; then
+    /// of the heads; then row by row of the first cell that has none of its column's values, of an identifier
+    /// and of a name that an earlier row has, and of the row after the first [`MAX_LINKS`]. `Memory` if there
+    /// is none.
     pub fn read(alloc: Global, text: &str) -> Result<IcdLinks, IcdFault>
         ensures links { IfOk result (λ icd. AreLinks text.now icd.links.items) }
     {
-        let rows = read_rows(alloc, text).map_err(|error| fault_of(text, &error))?;
+        let rows = closed_rows(alloc, text)?;
         let Some((heads, rows)) = rows.split_first() else {
             return Err(IcdFault::Head { line: 1 });
         };

@@ -1,10 +1,8 @@
 //! The rows of a document.
 
-ghost use Rattle.std.specs.Prelude.{◌≡◌, IfOk, find, map};
-ghost use Rattle.csv.specs.Reading.{AreRecords, strip_bom};
+ghost use Rattle.std.specs.Prelude.{◌≡◌, ◌++◌, ◌∷◌, [], IfOk, find, map, true};
 ghost use Rattle.csv.specs.Records.{fields_of};
-ghost use Rattle.csv.specs.declared.parser.State.TheVariants as state;
-ghost use Rattle.icd_links.specs.Rows.{separated_by, separator, tells_separator};
+ghost use Rattle.icd_links.specs.Rows.{AreClosedRows, AreRows, separator, tells_separator};
 
 use crate::fault::IcdFault;
 use csv::{Error, ErrorKind, Position, ReaderBuilder, StringRecord};
@@ -57,7 +55,7 @@ pub fn line_of(text: &str, row: &StringRecord) -> u64 {
 }
 
 /// Why the rows aren't read.
-pub fn fault_of(text: &str, error: &Error) -> IcdFault {
+fn fault_of(text: &str, error: &Error) -> IcdFault {
     match error.kind() {
         ErrorKind::UnequalLengths { pos, .. } => IcdFault::Cells {
             line: line_at(text, byte_of(*pos)),
@@ -67,9 +65,8 @@ pub fn fault_of(text: &str, error: &Error) -> IcdFault {
 }
 
 /// The rows of a text, which have one length.
-pub fn read_rows(alloc: Global, text: &str) -> Result<Vec<StringRecord>, Error>
-    ensures rows { IfOk result (λ rows. AreRecords (separated_by (separator text.now)) state.StartRecord
-        (strip_bom text.now) (map fields_of rows.items)) }
+fn read_rows(alloc: Global, text: &str) -> Result<Vec<StringRecord>, Error>
+    ensures rows { IfOk result (λ rows. AreRows text.now (map fields_of rows.items)) }
 {
     let reader = ReaderBuilder::new()
         .has_headers(false)
@@ -82,4 +79,42 @@ pub fn read_rows(alloc: Global, text: &str) -> Result<Vec<StringRecord>, Error>
         }
     }
     Ok(rows)
+}
+
+/// The rows of a text with a line feed behind it.
+fn read_ended(alloc: Global, text: &str) -> Result<Vec<StringRecord>, Error>
+    ensures { IfOk result (λ rows. AreRows (text.now ++ 10 ∷ []) (map fields_of rows.items)) }
+{
+    let Ok(mut ended) = String::from_str(alloc, text) else {
+        return Err(Error::out_of_memory());
+    };
+    if ended.push('\n').is_err() {
+        return Err(Error::out_of_memory());
+    }
+    read_rows(alloc, ended.as_str())
+}
+
+/// Are these rows of a text its rows with a line feed behind it, too? Within quotes it would be of a cell.
+fn stay(alloc: Global, text: &str, rows: &[StringRecord]) -> Result<bool, Error>
+    ensures { IfOk result (λ stay. stay ≡ true
+        → AreRows (text.now ++ 10 ∷ []) (map fields_of rows.now)) }
+{
+    Ok(rows == read_ended(alloc, text)?.as_slice())
+}
+
+/// The rows of a text, which have one length, and of which none has a quote that isn't closed.
+///
+/// # Errors
+///
+/// `Cells` of the row that has another length, or the quote; `Memory` if there is none.
+pub fn closed_rows(alloc: Global, text: &str) -> Result<Vec<StringRecord>, IcdFault>
+    ensures { IfOk result (λ rows. AreClosedRows text.now (map fields_of rows.items)) }
+{
+    let rows = read_rows(alloc, text).map_err(|error| fault_of(text, &error))?;
+    if stay(alloc, text, rows.as_slice()).map_err(|error| fault_of(text, &error))? {
+        return Ok(rows);
+    }
+    // All that follows an open quote is of its row.
+    let line = rows.as_slice().last().map_or(1, |row| line_of(text, row));
+    Err(IcdFault::Cells { line })
 }

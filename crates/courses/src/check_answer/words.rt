@@ -74,6 +74,8 @@ impl Display for Counted {
 /// The word of a question, for scripts.
 pub fn question_word(question: &Question) -> &'static str {
     match question {
+        Question::Empty(Network::A) => "empty_a",
+        Question::Empty(Network::B) => "empty_b",
         Question::SameRecording => "same_recording",
         Question::Wiring(Wiring::Swapped) => "swapped",
         Question::Wiring(Wiring::BothOfA) => "both_of_a",
@@ -104,6 +106,9 @@ pub fn question_word(question: &Question) -> &'static str {
         Question::Clocks(_) => "clocks",
     }
 }
+
+const NO_FRAME: &str = "\
+Its recording has no frame, that of the other has some: look at its tap, or leave the recording out";
 
 const SAME_RECORDING: &str = "are --a and --b one recording? All their frames are the same";
 
@@ -237,6 +242,10 @@ impl Display for RecorderPart<'_> {
 impl Display for Asked<'_> {
     fn fmt<W: fmt::Write>(&self, f: &mut Formatter<W>) -> fmt::Result {
         match *self.0 {
+            Question::Empty(network) => {
+                let network = network.letter();
+                write!(f, "was network {network} recorded? {NO_FRAME}")
+            }
             Question::SameRecording => f.write_str(SAME_RECORDING),
             Question::Wiring(Wiring::Swapped) => f.write_str(SWAPPED),
             Question::Wiring(Wiring::BothOfA) => f.write_str(BOTH_OF_A),
