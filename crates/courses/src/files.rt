@@ -80,6 +80,23 @@ fn add_later_files<'a>(
     Ok(())
 }
 
+/// Adds the lists that name files of a recording.
+fn add_lists<'a>(
+    rt: &HostRuntime,
+    named: &mut Vec<NamedFile<'a>>,
+    tap: &'a Tap,
+    option: FileOption,
+) -> Result<(), AllocError> {
+    for path in &tap.lists {
+        named.push(NamedFile {
+            option,
+            is_written: false,
+            named: named_by(rt, path),
+        })?;
+    }
+    Ok(())
+}
+
 /// What the paths of a command's files name.
 fn named_files<'a>(
     rt: &HostRuntime,
@@ -91,8 +108,9 @@ fn named_files<'a>(
         named.push(named_file(rt, file))?;
     }
     for network in [Network::A, Network::B] {
-        let option = option_of(command, network);
-        add_later_files(rt, &mut named, taps.of_network(network), option)?;
+        let (tap, option) = (taps.of_network(network), option_of(command, network));
+        add_later_files(rt, &mut named, tap, option)?;
+        add_lists(rt, &mut named, tap, option)?;
     }
     Ok(named)
 }

@@ -26,6 +26,8 @@ pub struct TapFile {
 #[derive(Drop)]
 pub struct Tap {
     pub files: Vec<TapFile>,
+    /// The paths of the lists that name files of it.
+    pub lists: Vec<String>,
 }
 
 /// The recordings of a command: that of network A, or its one recording, and that of network B.
@@ -64,17 +66,15 @@ impl Tap {
     fn of(rt: &HostRuntime, words: Option<&str>) -> Result<Tap, AllocError> {
         let mut tap = Tap {
             files: Vec::new(rt.alloc()),
+            lists: Vec::new(rt.alloc()),
         };
         let Some(words) = words else {
             return Ok(tap);
         };
         for word in words.split(BETWEEN_FILES) {
-            match word
-                .strip_prefix('@')
-                .map(|list| fs::read_to_string(rt, list))
-            {
-                Some(Ok(list)) if !list.trim().is_empty() => tap.add_listed(rt, &list)?,
-                Some(_) | None => tap.add(rt, word)?,
+            match word.strip_prefix('@') {
+                Some(path) => tap.add_list(rt, word, path)?,
+                None => tap.add(rt, word)?,
             }
         }
         Ok(tap)
@@ -85,6 +85,18 @@ impl Tap {
         let path = String::from_str(rt.alloc(), path)?;
         self.files.push(TapFile { path, choice })?;
         Ok(())
+    }
+
+    /// Adds the list at a path, which a word names, and its files.
+    fn add_list(&mut self, rt: &HostRuntime, word: &str, path: &str) -> Result<(), AllocError> {
+        match fs::read_to_string(rt, path) {
+            Ok(list) if !list.trim().is_empty() => {
+                let path = String::from_str(rt.alloc(), path)?;
+                self.lists.push(path)?;
+                self.add_listed(rt, &list)
+            }
+            Ok(_) | Err(_) => self.add(rt, word),
+        }
     }
 
     /// Adds the files of a list: a path a line. Lines without one are passed over.
