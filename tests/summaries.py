@@ -67,20 +67,22 @@ def tap_of(note):
 
 
 def summed(desk, name, config, a, b, hint):
-    """A run at a terminal, and in a pipe with --verbose; and both with --quiet: the notes alone."""
+    """A run at a terminal, where --quiet leaves the notes alone but --verbose asks for all, and in a pipe with --verbose."""
     expected = watch(config, EVERY, a, b)
     ledger = expected.lines + expected.summary
     notes = notes_on(ledger, {"A": a, "B": b})
     told = "".join(f"{note}\n{desk.paths[tap_of(note)]}: {advice_on_ending(note)}\n" for note in notes.splitlines())
-    for more, whole in (((), told + summary_of(ledger, hint)), (("--quiet",), told)):
+    summary = told + summary_of(ledger, hint)
+    for more, whole in (((), summary), (("--quiet",), told), (("--quiet", "--verbose"), summary)):
         desk.lay(config=config, filter=EVERY, a=a, b=b)
         ran = run_at_terminal([*desk.arguments(), *more], stdin=subprocess.DEVNULL)
         fault = "" if (ran.returncode, ran.stderr, ran.stdout) == (SUCCESS, whole, b"") else f"status {ran.returncode}, {ran.stderr!r}, not {whole!r}"
         left = desk.compared("capture", expected.capture) or desk.compared("ledger", ledger)
         say(" ".join(["watch: the summary", *more, "of", name]), fault or left)
+    for more in ((), ("--quiet",)):
         desk.lay(config=config, filter=EVERY, a=a, b=b)
         ran = desk.watch("--verbose", *more)
-        say(" ".join(["watch: the summary in a pipe --verbose", *more, "of", name]), difference(ran, SUCCESS, lambda text: text == whole, b""))
+        say(" ".join(["watch: the summary in a pipe --verbose", *more, "of", name]), difference(ran, SUCCESS, lambda text: text == summary, b""))
     desk.lay(config=config, filter=EVERY, a=a, b=b)
     say(f"watch: --quiet in a pipe, of {name}", difference(desk.watch("--quiet"), SUCCESS, notes, b""))
 

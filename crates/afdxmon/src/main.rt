@@ -97,7 +97,7 @@ fn tell_ended<'x>(
 }
 
 /// Carries out what a command line asks for, and tells standard error how it ended: all of it, where that is
-/// asked for or standard error is a terminal.
+/// asked for or standard error is a terminal. A log that asks for all of it has the summary of a quiet run too.
 fn carry_out<R: Threads + Wait + Sync>(
     rt: &HostRuntime,
     threads: &R,
@@ -120,7 +120,7 @@ fn carry_out<R: Threads + Wait + Sync>(
         }
         Err(refused) => tell_refused(rt, asked.command, &taps, &refused, full),
     };
-    if full && !quiet {
+    if asked.verbose || (full && !quiet) {
         let _ = summarise(rt, &ended, &taps);
     }
     ended.exit
