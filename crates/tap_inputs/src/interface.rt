@@ -1,5 +1,6 @@
 //! Which interface of a pcapng recording is read: a number or a name after its path and a colon. And what is
 //! told of the others.
+use crate::described::described_in;
 use afdx_frame::Network;
 use command_line::{Exit, SkippedNote, is_standard};
 use pcap_io::{BadReason, Ending, Found, ReadSource, TapReader};
@@ -115,14 +116,14 @@ pub fn start_of(
     TapReader::open(source, Network::A, 1 << 32, u64::MAX).ok()
 }
 
-/// The interfaces at a file's start, if that ends at a packet of a second Ethernet interface.
+/// The interfaces at a file's start, if a packet of a second Ethernet interface stands there.
 fn several_in(rt: &HostRuntime, path: &str) -> Option<String> {
     let mut reader = start_of(rt, path, Choice::Any, LOOKED_AT)?;
     for _ in 0..LOOKED_AT {
         match reader.advance(rt.alloc()) {
             Ok(Found::Frame) => {}
             Ok(Found::End(Ending::Bad(_, BadReason::SeveralInterfaces))) => {
-                return list_of(rt, reader.into_source().interfaces());
+                return list_of(rt, &described_in(rt, path, LOOKED_AT)?);
             }
             Ok(Found::End(_)) | Err(_) => return None,
         }
@@ -143,7 +144,7 @@ fn others_in(rt: &HostRuntime, path: &str, choice: Choice) -> Option<String> {
     let mut reader = start_of(rt, path, choice, u64::MAX)?;
     match reader.advance(rt.alloc()) {
         Ok(Found::End(Ending::Bad(_, BadReason::NoSuchInterface))) => {
-            list_of(rt, reader.into_source().interfaces())
+            list_of(rt, &described_in(rt, path, u64::MAX)?)
         }
         Ok(Found::Frame | Found::End(_)) | Err(_) => None,
     }
@@ -159,13 +160,10 @@ fn shown_name(interface: &Interface) -> Option<&str> {
     }
 }
 
-/// The Ethernet interfaces: the number of each, and its name.
+/// A list of interfaces: the number of each, and its name.
 fn list_of(rt: &HostRuntime, interfaces: &[Interface]) -> Option<String> {
     let mut list = String::new(rt.alloc());
     for interface in interfaces {
-        if !interface.ethernet {
-            continue;
-        }
         let number = interface.number;
         let separator = if list.is_empty() { "" } else { ", " };
         write!(list, "{separator}{number}").ok()?;

@@ -10,6 +10,7 @@
 #![tactic(auto)]
 
 mod blocks;
+mod described;
 mod disorder;
 mod interface;
 mod opening;
