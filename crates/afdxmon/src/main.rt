@@ -8,6 +8,8 @@ mod watcher;
 mod watching;
 
 use analyser::{CommandLine, Exit, Invocation, USAGE, gathered, read_arguments};
+use clap::Error;
+use command_line::{Typed, has_standard_among};
 use courses::{
     Ended, Known, arguments, asm, capture, check, cut, debug, links, report, summarise, tell,
 };
@@ -31,6 +33,26 @@ fn unreadable(error: &io::Error) -> &'static str {
 /// The same, where the files of a recording are one word.
 fn gathered_arguments(rt: &HostRuntime) -> io::Result<Vec<String>> {
     Ok(gathered(rt.alloc(), &arguments(rt)?)?)
+}
+
+/// What a person is told who names standard input beside other files of a recording.
+const STANDARD_AMONG: &str = "\
+afdxmon: '-' can't be one of several files of a recording: name standard input /dev/stdin there";
+
+/// Prints what clap answers in place of a command: why it refuses the arguments, or the help or the version
+/// that they ask for. Gives the exit status.
+fn print_answer(rt: &HostRuntime, answer: &Error) -> u8 {
+    let Ok(text) = answer.to_string(rt.alloc()) else {
+        let _ = answer.print(rt);
+        return USAGE;
+    };
+    if answer.use_stderr() {
+        let _ = rt.eprint(Typed(&text));
+        USAGE
+    } else {
+        let _ = rt.print(&text);
+        0
+    }
 }
 
 /// Carries out a command. An error is a fault that was met before it began.
@@ -135,13 +157,13 @@ fn main(rt: HostRuntime) -> ExitCode {
             return ExitCode::from(USAGE);
         }
     };
+    if has_standard_among(&arguments) {
+        let _ = rt.eprintln(STANDARD_AMONG);
+        return ExitCode::from(USAGE);
+    }
     let status = match read_arguments(rt.alloc(), &arguments) {
         Ok(asked) => status_of(&carry_out(&rt, &rt, asked)),
-        // Help and the version are asked for: they go to standard output, and are no mistake.
-        Err(error) => {
-            let _ = error.print(&rt);
-            if error.use_stderr() { USAGE } else { 0 }
-        }
+        Err(answer) => print_answer(&rt, &answer),
     };
     ExitCode::from(status)
 }

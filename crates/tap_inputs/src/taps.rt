@@ -5,14 +5,14 @@ use crate::streams::Input;
 use afdx_frame::Network;
 use command_line::{
     BETWEEN_FILES, CaptureArguments, CheckArguments, CutArguments, DebugArguments, Fault,
-    FileOption, Inode, Invocation, LinksArguments, WatchArguments,
+    FileOption, Inode, Invocation, LinksArguments, WatchArguments, is_standard,
 };
 use pcap_io::{Found, ReadSource, TapReader, TapSource};
 use pcapng::Choice;
 use std::alloc::AllocError;
 use std::fmt::Write;
 use std::fs;
-use std::fs::File;
+use std::fs::{File, Metadata};
 use std::os::unix::fs::MetadataExt;
 
 /// A file of a recording, and the interface that is read of it.
@@ -227,9 +227,17 @@ pub struct Looked {
 }
 
 impl TapFile {
+    /// What the system says of the file, which standard input isn't one of.
+    fn metadata(&self, rt: &HostRuntime) -> Option<Metadata> {
+        if is_standard(&self.path) {
+            return None;
+        }
+        fs::metadata(rt, &self.path).ok()
+    }
+
     /// Looks at the file, if it is a regular one: a pipe's bytes are read once.
     pub fn look(&self, rt: &HostRuntime, option: FileOption) -> Result<Option<Looked>, Refused> {
-        let Ok(found) = fs::metadata(rt, &self.path) else {
+        let Some(found) = self.metadata(rt) else {
             return Err(Refused::from(Fault::File(option)));
         };
         if !found.is_file() {

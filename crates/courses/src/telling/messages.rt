@@ -94,6 +94,20 @@ fn path_of<'a>(command: Invocation<'a>, file: FileOption) -> Option<&'a str> {
     if is_standard(path) { None } else { Some(path) }
 }
 
+/// The recording that an option names, if it names one.
+fn tap_of<'a>(taps: &'a Taps, file: FileOption) -> Option<&'a Tap> {
+    match file {
+        FileOption::A | FileOption::Recording | FileOption::Tap => Some(taps.of_network(Network::A)),
+        FileOption::B => Some(taps.of_network(Network::B)),
+        _ => None,
+    }
+}
+
+/// Is the file standard input, in a list of several?
+fn is_standard_among(command: Invocation<'_>, file: FileOption, taps: &Taps) -> bool {
+    tap_of(taps, file).is_some_and(|tap| tap.is_of_several()) && path_of(command, file).is_none()
+}
+
 /// What a ledger or a manifest that is read needs. None: it is none, or is written.
 fn needs_to_be_read(command: Invocation<'_>, file: FileOption) -> Option<&'static str> {
     if command.file_of(file).is_some_and(|file| file.is_written) {
@@ -274,6 +288,10 @@ const BASELINE_ADVICE: &str =
 /// What a manifest that is read needs.
 const MANIFEST_ADVICE: &str =
     "--manifest needs a manifest that can be read: a file of watch, at most 16 MiB of UTF-8";
+
+/// What a list of several files with standard input needs.
+const STANDARD_AMONG: &str =
+    "standard input: it can't be one of several files of a recording: name it /dev/stdin there";
 
 /// Tells why a file can't be opened, read or written, and what it needs.
 fn explain_file(
@@ -516,6 +534,9 @@ fn explain(
         return eprintln!(rt; "{name}: {error}");
     }
     match (*fault, file) {
+        (Fault::File(_), Some(file)) if is_standard_among(command, file, known.taps) => {
+            rt.eprintln(STANDARD_AMONG)
+        }
         (
             Fault::File(_)
             | Fault::Watch(WatchFault::Read { .. })
