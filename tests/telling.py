@@ -344,19 +344,42 @@ def reports(desk):
         with open(ledger, "w", encoding="ascii") as out:
             out.write(text)
         told.append(twice("a report", line, f"{ledger}: ", ["report", "--config", desk.paths["config"], "--ledger", ledger], stdin=subprocess.DEVNULL))
-    of_others = (
-        (LINE.format("deliver").replace(" 5 1 ", " 500 1 "), "link 500 isn't in the table {}"),
-        (LINE.format("-").replace("regular within first", "unconfigured - -"), "link 5 brake is unconfigured there, and the table {} has it"),
-        (LINE.format("both"), "link 5 brake has other integrity checking or redundancy management in the table {}"),
-    )
-    for text, words in of_others:
-        with open(ledger, "w", encoding="ascii") as out:
-            out.write(head + text)
-        advice = "line 2: " + words.format(desk.paths["config"]) + ": is it the table of the run?"
-        arguments = ["report", "--config", desk.paths["config"], "--ledger", ledger]
-        told.append(twice("a report", "report 2 Contradiction at 2 link", f"{ledger}: ", arguments, advice=advice, stdin=subprocess.DEVNULL))
+    told += other_tables(desk, head, ledger)
     arguments = ["report", "--config", desk.paths["config"], "--ledger", desk.directory]
     told.append(twice("a report", "report 3 Read Ledger", f"{desk.directory}: ", arguments, advice=DIRECTORY, stdin=subprocess.DEVNULL))
+    return told
+
+
+# A copy 1500 us after its delivery, counts of link 5, and the same of another link and of a filter.
+LATE_COPY = LINE.format("deliver") + LINE.format("copy").replace("A 0", "B 0").replace("1000000000000000000", "1000000000001500000")
+COUNTED = "link {} frames 1 toolong 0 excess 0 out 0 copy 0 delivered 1\n"
+# What a ledger of another table has after its head, at which line and as what it contradicts this one, and how.
+OF_OTHER_TABLES = (
+    (LINE.format("deliver").replace(" 5 1 ", " 500 1 "), "2 link", "link 500 isn't in the table {}"),
+    (LINE.format("-").replace("regular within first", "unconfigured - -"), "2 link", "link 5 brake is unconfigured there, and the table {} has it"),
+    (LINE.format("both"), "2 link", "link 5 brake has other integrity checking or redundancy management in the table {}"),
+    (LATE_COPY, "3 copy", "link 5 brake has a copy 1500 us after its delivery, and SkewMax 1000 us in the table {}"),
+    (LINE.format("deliver") + COUNTED.format("5 flaps"), "3 counts", "link 5 brake of the table {} is flaps there"),
+    (LINE.format("deliver") + COUNTED.format("4 flaps"), "3 counts", "link 4 isn't in the table {}"),
+    (LINE.format("deliver") + "filter 0 accepted 0\n", "3 counts", "link 5 brake of the table {} has no counts there"),
+)
+
+
+def other_tables(desk, head, ledger):
+    """A ledger of another table, its own and that of an earlier flight: the link, and how both differ."""
+    told, table = [], desk.paths["config"]
+    own = os.path.join(desk.directory, "own.ledger")
+    with open(own, "w", encoding="ascii") as out:
+        out.write(head + LINE.format("deliver"))
+    for text, place, words in OF_OTHER_TABLES:
+        with open(ledger, "w", encoding="ascii") as out:
+            out.write(head + text)
+        line, _ = place.split()
+        advice = f"line {line}: " + words.format(table) + ": is it the table of the run?"
+        arguments = ["report", "--config", table, "--ledger", ledger]
+        told.append(twice("a report", f"report 2 Contradiction at {place}", f"{ledger}: ", arguments, advice=advice, stdin=subprocess.DEVNULL))
+        arguments = ["report", "--config", table, "--ledger", own, "--baseline", ledger]
+        twice("a report of two flights", f"report 6 Baseline 2 Contradiction at {place}", f"{ledger}: ", arguments, advice=advice, stdin=subprocess.DEVNULL)
     return told
 
 

@@ -1,6 +1,6 @@
 //! What standard error is told of a command's end: the fault line or the notes, and at a terminal which file
 //! it is about, why, and what to do. What a file is found to be by then is only told, and decides nothing.
-use crate::telling::disputed::Disputed;
+use crate::telling::disputed::{Disputed, KnownTable};
 use afdx_frame::Network;
 use analyser::MAX_TEXT;
 use bpf_asm::AsmFault;
@@ -373,20 +373,35 @@ fn explain_manifest(
     }
 }
 
-/// Tells which link's line contradicts the table, where ledger and table can be read again.
-fn explain_link(
+/// Which link's line of a ledger contradicts the table, where both can be read again.
+fn disputed_in<'c, 't>(
+    rt: &HostRuntime,
+    ledger: &str,
+    table: KnownTable<'c, 't>,
+    (line, found): (u64, Contradiction),
+) -> Option<Disputed<'c, 't>> {
+    match found {
+        Contradiction::Link => table.of_link(rt, ledger, line),
+        Contradiction::Copy => table.of_copy(rt, ledger, line),
+        Contradiction::Counts => table.of_counts(rt, ledger, line),
+    }
+}
+
+/// Tells which link's line contradicts the table, where that is seen.
+fn explain_contradiction(
     rt: &HostRuntime,
     command: Invocation<'_>,
-    line: u64,
+    file: FileOption,
+    (line, found): (u64, Contradiction),
     fault: &Fault,
 ) -> io::Result<()> {
-    let (ledger, table) = (FileOption::Ledger, FileOption::Config);
-    let (Some(ledger), Some(table)) = (path_of(command, ledger), path_of(command, table)) else {
-        return advise(rt, name_of(command, ledger), Advice(fault));
+    let (ledger, table) = (path_of(command, file), path_of(command, FileOption::Config));
+    let (Some(ledger), Some(path)) = (ledger, table) else {
+        return advise(rt, name_of(command, file), Advice(fault));
     };
-    let config = text_again(rt, table).and_then(|text| Config::read(rt.alloc(), &text).ok());
+    let config = text_again(rt, path).and_then(|text| Config::read(rt.alloc(), &text).ok());
     let disputed = match &config {
-        Some(config) => Disputed::of(rt, ledger, line, table, config),
+        Some(config) => disputed_in(rt, ledger, KnownTable { path, config }, (line, found)),
         None => None,
     };
     match disputed {
@@ -554,8 +569,12 @@ fn explain(
         (Fault::Report(ReportFault::Manifest(ManifestFault::Form { .. })), _) => {
             explain_manifest(rt, command, name, fault)
         }
-        (Fault::Report(ReportFault::Contradiction { line, found }), _)
-            if found == Contradiction::Link => explain_link(rt, command, line, fault),
+        (Fault::Report(ReportFault::Contradiction { line, found }), _) => {
+            explain_contradiction(rt, command, FileOption::Ledger, (line, found), fault)
+        }
+        (Fault::Baseline(ReportFault::Contradiction { line, found }), _) => {
+            explain_contradiction(rt, command, FileOption::Baseline, (line, found), fault)
+        }
         (Fault::Config(fault), _) => explain_table(rt, command, fault),
         (Fault::Icd(fault), _) => explain_icd(rt, name, fault),
         (Fault::Asm(fault), _) => explain_source(rt, command, fault, known.source),
