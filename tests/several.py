@@ -18,6 +18,7 @@ from analyser import watch
 from blocks import Blocks
 from harness import EVERY, FAULT, LINK5, SUCCESS, USAGE, difference, frame, header, judge, record, run, run_at_terminal, say, skip
 from reference import FILE_STARTS, HEADER, LAYOUTS, MAX_CAPTURED, capture, parse
+from texts import ADVICE, UNREADABLE
 from watching import REASONS, TABLE, Desk
 
 MAGIC = {("<", 1): 0xA1B23C4D, (">", 1): 0xA1B23C4D, ("<", 1000): 0xA1B2C3D4, (">", 1000): 0xA1B2C3D4}
@@ -278,6 +279,27 @@ def refused(desk):
     say("several: a word that is no option's", difference(ran, USAGE, lambda told: "unexpected argument" in told, b""))
 
 
+def unreadable(desk):
+    """A later file that can't be read is named, and why, by each command."""
+    desk.lay(config=TABLE, filter=EVERY)
+    paths = lay(desk.directory, "three", THREE)
+    folder = os.path.join(desk.directory, "folder")
+    os.mkdir(folder)
+    why = f"{folder}: Is a directory (os error 21)\n{UNREADABLE}"
+    unsound = f"afdxmon: check 1 Unsound\n{ADVICE['check 1 Unsound']}\n{why}"
+    for words, line in (
+        ([*desk.arguments(a=None, b=None, capture=None, filter=None), "--a"], f"afdxmon: watch 3 Read A\n{why}"),
+        ([*desk.arguments(a=paths[0], b=None, capture=None, filter=None), "--b"], f"afdxmon: watch 3 Read B\n{why}"),
+        (["capture", "--code", EVERY], f"afdxmon: watch 3 Read A\n{why}"),
+        (["debug", "--filter", desk.paths["filter"], "--tap"], f"afdxmon: watch 3 Read A\n{why}"),
+        (["links", "--a"], f"afdxmon: watch 3 Read A\n{why}"),
+        (["check", "--config", desk.paths["config"], "--b"], unsound),
+    ):
+        for files in ([paths[0], folder], [folder, paths[0]], [*paths, folder]):
+            ran = run([words[0], "-v", *words[1:], *files], stdin=subprocess.DEVNULL, stdout=subprocess.PIPE)
+            judge(f"several: {words[0]} {words[-1]} names a directory, {files.index(folder) + 1} of {len(files)}", ran, FAULT, line)
+
+
 def gaps(desk):
     """`check` tells where nothing was recorded for more than a second between two files, across files without frames too."""
     desk.lay(config=TABLE)
@@ -429,6 +451,6 @@ def recorders(desk):
 
 
 def cases():
-    for part in (generated, long_list, other_commands, endings, refused, gaps, windows, lists, manifests, pipes, standard_input, at_terminal, recorders):
+    for part in (generated, long_list, other_commands, endings, refused, unreadable, gaps, windows, lists, manifests, pipes, standard_input, at_terminal, recorders):
         with tempfile.TemporaryDirectory() as directory:
             part(Desk(directory))

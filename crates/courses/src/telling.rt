@@ -3,5 +3,6 @@
 
 mod disputed;
 mod messages;
+mod reason;
 
 pub use messages::{Known, tell};
