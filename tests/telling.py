@@ -32,7 +32,6 @@ SOURCES = (
     (b"l: ret #0 jmp l", "asm 6 Backward at 1", "1:15\nl: ret #0 jmp l\n              ^\n"),
     (b"l: jmp l", "asm 6 Backward at 0", "1:8\nl: jmp l\n       ^\n"),
     (FAR, "asm 7 TooFar at 0", "1:10\n\tjeq #0, l\n\t        ^\n"),
-    (b"\xff", "file -", ""),
     (b"ret #0\r\nld @\r\n", "asm 1 Text 1 Character at 11", "2:4\nld @\n   ^\n"),
     ("/* \u00e9 */ ld @".encode(), "asm 1 Text 1 Character at 12", "1:12\n/* \u00e9 */ ld @\n           ^\n"),
     # A line of 200 bytes is shown, a longer one isn't, nor one with a control character.
@@ -205,6 +204,7 @@ def faults(desk):
     told = []
     for source, line, shown in SOURCES:
         told.append(twice("a source", line, shown and "standard input:" + shown, ["asm"], input=source))
+    no_texts(desk)
     for code, line, shown in CODES + BLANKS:
         lead = f"--code:{shown}" if shown else "--code: "
         told.append(twice(f"the filter {code!r}", line, lead, ["capture", "--code", code], input=header()))
@@ -227,6 +227,22 @@ def faults(desk):
     for key in ADVICE:
         if not any((line + " ").startswith(key) for line in told):
             say("each advice", f"no case has the fault {key}")
+
+
+def no_texts(desk):
+    """Standard input that is no text: the reason that is true, of `asm` and of the commands of `debug`."""
+    desk.lay(filter=EVERY, a=header())
+    debug = ["debug", "--filter", desk.paths["filter"], "--tap", desk.paths["a"]]
+    for arguments in (["asm"], debug):
+        for given, reason in (
+            (b"\xff", "not UTF-8 at byte 0"),
+            ("/* \u00e9 */ ret #0 \u00e9".encode()[:-1], "not UTF-8 at byte 16"),
+            (b" " * 16777217, "it has more than 16777216 bytes"),
+        ):
+            twice("no text", "file -", "standard input: ", arguments, advice=reason, input=given)
+        folder = os.open(desk.directory, os.O_RDONLY)
+        twice("a directory as standard input", "file -", "standard input: ", arguments, advice=DIRECTORY, stdin=folder)
+        os.close(folder)
 
 
 def runs(desk):

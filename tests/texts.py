@@ -26,7 +26,6 @@ ADVICE = {
     "file --capture": OUTPUT.format("capture"),
     "file --ledger": OUTPUT.format("ledger"),
     "file --manifest": OUTPUT.format("manifest"),
-    "file -": "standard input or output fails, or the text is longer than 16 MiB or not UTF-8",
     "order --a": "give the files of a recording in the order of their first timestamps",
     "repeated --a": "give each file of a recording once",
     "asm 1 Text 1": "no token begins with this byte",

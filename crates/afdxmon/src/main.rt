@@ -107,7 +107,7 @@ fn tell_ended<'x>(
     full: bool,
 ) {
     let known = Known {
-        source: None,
+        source: ended.told.as_deref(),
         reason: ended.reason,
         unread: ended.unread,
         taps,

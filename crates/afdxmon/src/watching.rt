@@ -148,6 +148,7 @@ fn settle<'p>(
         worst,
         skipped: Skipped::two(skipped_in(&a), skipped_in(&b)),
         reason: capture_fails.or(ledger_fails),
+        told: None,
         unread: None,
     };
     let read = [a.map(|end| end.sums), b.map(|end| end.sums)];

@@ -6,3 +6,4 @@ mod messages;
 mod reason;
 
 pub use messages::{Known, tell};
+pub use reason::Reason;

@@ -52,7 +52,7 @@ impl Display for StopNote<'_> {
 /// What the program knows of a command's end, beside how it ended.
 #[derive(Clone, Copy)]
 pub struct Known<'a> {
-    /// The text in which a fault lies, or a list of a file's interfaces.
+    /// The text in which a fault lies, a list of a file's interfaces, or what is wrong with a standard stream.
     pub source: Option<&'a str>,
     /// Why the system took an output no longer.
     pub reason: Option<io::Error>,
@@ -462,9 +462,11 @@ fn explain_named(
     known: Known<'_>,
 ) -> io::Result<()> {
     if is_standard_among(command, file, known.taps) {
-        rt.eprintln(STANDARD_AMONG)
-    } else {
-        explain_file(rt, command, file, fault)
+        return rt.eprintln(STANDARD_AMONG);
+    }
+    match known.source {
+        Some(told) => rt.eprintln(told),
+        None => explain_file(rt, command, file, fault),
     }
 }
 

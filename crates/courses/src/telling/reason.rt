@@ -14,6 +14,8 @@ pub enum Reason {
     System(io::Error),
     /// A text that has so many bytes.
     TooLong(u64),
+    /// A text of more bytes than are taken, of which no more were read.
+    Longer,
     /// A text that isn't UTF-8 from this byte on.
     NotUtf8(usize),
     /// A list of a recording's files that has no path.
@@ -25,6 +27,7 @@ impl Display for Reason {
         match self {
             Reason::System(error) => write!(f, "{error}"),
             Reason::TooLong(len) => write!(f, "it has {len} bytes"),
+            Reason::Longer => write!(f, "it has more than {MAX_TEXT} bytes"),
             Reason::NotUtf8(at) => write!(f, "not UTF-8 at byte {at}"),
             Reason::NoPath => f.write_str("the list has no path"),
         }
