@@ -7,11 +7,14 @@
 mod watcher;
 mod watching;
 
-use analyser::{CommandLine, Exit, Invocation, USAGE, gathered, read_arguments};
+use analyser::{
+    CommandLine, Exit, Fault, FileOption, Invocation, USAGE, gathered, read_arguments,
+};
 use clap::Error;
 use command_line::{Typed, has_standard_among};
 use courses::{
-    Ended, Known, arguments, asm, capture, check, cut, debug, links, report, summarise, tell,
+    Ended, Known, arguments, asm, capture, check, cut, debug, links, refuse_closed, report,
+    summarise, tell,
 };
 use std::io;
 use std::io::{ErrorKind, IsTerminal};
@@ -39,6 +42,16 @@ fn gathered_arguments(rt: &HostRuntime) -> io::Result<Vec<String>> {
 const STANDARD_AMONG: &str = "\
 afdxmon: '-' can't be one of several files of a recording: name standard input /dev/stdin there";
 
+/// Tells standard error that standard output can't be written, at a terminal why. Gives the exit status.
+fn tell_unprinted(rt: &HostRuntime, error: io::Error) -> u8 {
+    let exit = Exit::Fault(Fault::File(FileOption::Standard));
+    let _ = rt.eprintln(Fault::File(FileOption::Standard));
+    if rt.stderr().is_terminal() {
+        let _ = eprintln!(rt; "standard output: {error}");
+    }
+    exit.status()
+}
+
 /// Prints what clap answers in place of a command: why it refuses the arguments, or the help or the version
 /// that they ask for. Gives the exit status.
 fn print_answer(rt: &HostRuntime, answer: &Error) -> u8 {
@@ -48,10 +61,11 @@ fn print_answer(rt: &HostRuntime, answer: &Error) -> u8 {
     };
     if answer.use_stderr() {
         let _ = rt.eprint(Typed(&text));
-        USAGE
-    } else {
-        let _ = rt.print(&text);
-        0
+        return USAGE;
+    }
+    match rt.print(&text) {
+        Ok(()) => 0,
+        Err(error) => tell_unprinted(rt, error),
     }
 }
 
@@ -64,6 +78,7 @@ fn run<R: Threads + Wait + Sync>(
     (told, full): (&AtomicBool, bool),
 ) -> Result<Ended, Refused> {
     command.refuse_taken()?;
+    refuse_closed(rt, command)?;
     match command {
         Invocation::Watch(given) => watch(rt, threads, &given, taps, (told, full)),
         Invocation::Asm => Ok(Ended::from(asm(rt)?)),

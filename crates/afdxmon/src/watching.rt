@@ -8,7 +8,7 @@ use analyser::{
 use bpf_loader::Program;
 use courses::{
     Ended, LedgerWriter, MAX_LATE, RunSums, Spans, TextSums, blocks_of, create, create_hashed,
-    file_in, format_of, is_at_terminal, refuse_closed, refuse_shared, shared, text_of,
+    file_in, format_of, is_at_terminal, refuse_shared, shared, text_of,
     with_manifest, worst_links,
 };
 use pcap_io::WriteSink;
@@ -282,7 +282,6 @@ pub fn watch<R: Threads + Wait + Sync>(
     if given.capture.is_some_and(|path| is_at_terminal(rt, path)) {
         return Ok(Ended::from(Exit::Terminal));
     }
-    refuse_closed(rt, given)?;
     let (config, programs, texts) = set_up(rt, given)?;
     let analysis = Analysis {
         given,
