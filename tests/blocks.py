@@ -447,6 +447,26 @@ def choices(bench):
     recording = bench.put("plain.pcap", header() + record(5, DATA[0]))
     ran = run(["capture", "--code", EVERY, recording + ":0"], stdin=subprocess.DEVNULL, stdout=subprocess.PIPE)
     say("pcapng: an interface of a pcap file", difference(ran, SUCCESS, "", HEADER + record(5, DATA[0])))
+    of_pcap(bench, recording)
+
+
+def of_pcap(bench, recording):
+    """A pcap file has the interface 0, without a name: another one that is chosen isn't there."""
+    later = bench.put("later.pcap", header() + record(6, DATA[1]))
+    config, older = bench.put("table", TABLE.encode()), bench.put("older", b"older")
+    for choice in (":1", ":eth7", ":00001", ":-"):
+        for words, option in (
+            (["capture", "--code", EVERY, "-o", older], "RECORDING"),
+            (["watch", "--config", config, "--ledger", older, "--a"], "--a"),
+            (["links", "--b"], "--b"),
+            (["check", "--config", config, "--a"], "--a"),
+        ):
+            for files in ([recording + choice], [recording, later + choice]):
+                words_too = [*words, *files] if words[0] != "capture" else [*words[:3], *files, *words[3:]]
+                ran = run(words_too, stdin=subprocess.DEVNULL, stdout=subprocess.PIPE)
+                say(f"pcapng: {words[0]} of {len(files)} pcap files, {choice}", difference(ran, FAULT, f"afdxmon: interfaces {option}: 0", b""))
+    with open(older, "rb") as out:
+        say("pcapng: an interface of a pcap file, refused", "" if out.read() == b"older" else "an output was begun")
 
 
 def wrong(bench):

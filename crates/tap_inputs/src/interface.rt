@@ -104,6 +104,28 @@ fn is_pcapng(rt: &HostRuntime, path: &str) -> io::Result<bool> {
     Ok(first == SECTION)
 }
 
+/// Does a regular file begin as a pcap file that is read?
+fn is_pcap(rt: &HostRuntime, path: &str) -> bool {
+    if !fs::metadata(rt, path).is_ok_and(|found| found.is_file()) {
+        return false;
+    }
+    match File::open(rt, path) {
+        Ok(file) => TapReader::open(ReadSource::new(file), Network::A, 1, u64::MAX).is_ok(),
+        Err(_) => false,
+    }
+}
+
+/// The interfaces of a pcap file, if the chosen one isn't one of them: it has one, without a name.
+fn other_in_pcap(rt: &HostRuntime, path: &str, choice: Choice) -> Option<String> {
+    match choice {
+        Choice::Any | Choice::Number(0) => None,
+        Choice::Number(_) | Choice::Name(_) if is_pcap(rt, path) => {
+            String::from_str(rt.alloc(), "0").ok()
+        }
+        Choice::Number(_) | Choice::Name(_) => None,
+    }
+}
+
 /// The recording that so many bytes at the start of a file are, whose timestamps may stand in any order.
 pub fn start_of(
     rt: &HostRuntime,
@@ -176,10 +198,10 @@ fn list_of(rt: &HostRuntime, interfaces: &[Interface]) -> Option<String> {
 
 /// The Ethernet interfaces of a pcapng file, the number of each and its name, if it begins with packets of
 /// several and none is chosen, or if it doesn't describe the one that is. More than its start is read only
-/// where that has no frame of it.
+/// where that has no frame of it. A pcap file has the interface 0.
 pub fn refused_interfaces(rt: &HostRuntime, path: &str, choice: Choice) -> Option<String> {
     if !is_pcapng(rt, path).unwrap_or(false) {
-        return None;
+        return other_in_pcap(rt, path, choice);
     }
     match choice {
         Choice::Any => several_in(rt, path),

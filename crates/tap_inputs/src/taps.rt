@@ -246,9 +246,10 @@ impl TapFile {
         let Ok(file) = File::open(rt, &self.path) else {
             return Err(Refused::from(Fault::File(option)));
         };
+        self.refuse_absent(rt, option)?;
         let first = match TapReader::open(ReadSource::new(file), Network::A, 1, u64::MAX) {
             Ok(reader) => first_of(rt, reader),
-            Err(_) => self.first_of_pcapng(rt, option)?,
+            Err(_) => self.first_of_pcapng(rt),
         };
         Ok(Some(Looked {
             inode: Inode {
@@ -261,8 +262,8 @@ impl TapFile {
     }
 
     /// Refuses a file that begins with packets of several interfaces, if none is chosen, and one that doesn't
-    /// describe the one that is.
-    fn refuse_several(&self, rt: &HostRuntime, option: FileOption) -> Result<(), Refused> {
+    /// have the one that is.
+    fn refuse_absent(&self, rt: &HostRuntime, option: FileOption) -> Result<(), Refused> {
         match refused_interfaces(rt, &self.path, self.choice) {
             Some(listed) => Err(Refused {
                 source: Some(listed),
@@ -272,18 +273,9 @@ impl TapFile {
         }
     }
 
-    /// The timestamp of the first frame of a pcapng file, which has packets of one interface, or describes
-    /// the chosen one.
-    fn first_of_pcapng(
-        &self,
-        rt: &HostRuntime,
-        option: FileOption,
-    ) -> Result<Option<u64>, Refused> {
-        self.refuse_several(rt, option)?;
-        match start_of(rt, &self.path, self.choice, u64::MAX) {
-            Some(reader) => Ok(first_of(rt, reader)),
-            None => Ok(None),
-        }
+    /// The timestamp of the first frame of a pcapng file, of the chosen interface or the only one.
+    fn first_of_pcapng(&self, rt: &HostRuntime) -> Option<u64> {
+        first_of(rt, start_of(rt, &self.path, self.choice, u64::MAX)?)
     }
 }
 
@@ -330,7 +322,7 @@ impl Tap {
         match self.files.as_slice() {
             [] => Ok(None),
             [file] => {
-                file.refuse_several(rt, option)?;
+                file.refuse_absent(rt, option)?;
                 Ok(first.length(rt))
             }
             _ => self.look_at_several(rt, option, late),
