@@ -7,9 +7,7 @@
 mod watcher;
 mod watching;
 
-use analyser::{
-    CommandLine, Exit, Fault, FileOption, Invocation, USAGE, gathered, read_arguments,
-};
+use analyser::{CommandLine, Exit, Fault, FileOption, Invocation, USAGE, gathered, read_arguments};
 use clap::Error;
 use command_line::{Typed, has_standard_among};
 use courses::{
@@ -134,7 +132,7 @@ fn tell_ended<'x>(
 }
 
 /// Carries out what a command line asks for, and tells standard error how it ended: all of it, where that is
-/// asked for or standard error is a terminal. A log that asks for all of it has the summary of a quiet run too.
+/// asked for or standard error is a terminal. Where it is asked for, a quiet run has its summary too.
 fn carry_out<R: Threads + Wait + Sync>(
     rt: &HostRuntime,
     threads: &R,

@@ -8,8 +8,7 @@ use analyser::{
 use bpf_loader::Program;
 use courses::{
     Ended, LedgerWriter, MAX_LATE, RunSums, Spans, TextSums, blocks_of, create, create_hashed,
-    file_in, format_of, is_at_terminal, refuse_shared, shared, text_of,
-    with_manifest, worst_links,
+    file_in, format_of, is_at_terminal, refuse_shared, shared, text_of, with_manifest, worst_links,
 };
 use pcap_io::WriteSink;
 use pcapng::Interfaces;

@@ -92,10 +92,11 @@ pub struct Typed<'a>(pub &'a str);
 
 impl Display for Typed<'_> {
     fn fmt<W: fmt::Write>(&self, f: &mut Formatter<W>) -> fmt::Result {
-        let mut before = "";
-        for piece in self.0.split(BETWEEN_FILES) {
-            write!(f, "{before}{piece}")?;
-            before = " ";
+        for (at, piece) in self.0.split(BETWEEN_FILES).enumerate() {
+            if at > 0 {
+                f.write_str(" ")?;
+            }
+            f.write_str(piece)?;
         }
         Ok(())
     }

@@ -61,14 +61,14 @@ impl Walk {
         Some(())
     }
 
-    /// Which interface of earlier sections this one is: that of its name, else, where one of the two has none,
-    /// that of its number.
+    /// Which interface of earlier sections this one is: that of its name, else, where one of the two has
+    /// none, that of its number.
     fn known_as(&self, interface: &Interface) -> Option<usize> {
         let mut named = self.found.iter().take(self.earlier);
         let mut numbered = self.found.iter().take(self.earlier);
-        named
-            .position(|known| have_one_name(known, interface))
-            .or(numbered.position(|known| have_one_number(known, interface)))
+        named.position(|known| have_one_name(known, interface)).or(numbered.position(
+            |known| have_one_number(known, interface),
+        ))
     }
 
     /// Adds an interface. One of an earlier section has the number and the name that it had last.
@@ -123,8 +123,8 @@ impl Walk {
     }
 }
 
-/// The Ethernet interfaces that the sections in the first bytes of a pcapng file describe. An interface of two
-/// sections comes once. There are no more than a section may have, as nobody reads so many.
+/// The Ethernet interfaces that the sections in the first bytes of a pcapng file describe. An interface of
+/// two sections comes once. There are no more than a section may have, as nobody reads so many.
 pub fn described_in(rt: &HostRuntime, path: &str, bytes: u64) -> Option<Vec<Interface>> {
     let file = BufReader::new(rt.alloc(), File::open(rt, path).ok()?).ok()?;
     let mut walk = Walk {

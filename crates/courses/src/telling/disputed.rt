@@ -60,12 +60,7 @@ impl<'c, 't> KnownTable<'c, 't> {
     }
 
     /// The link of a frame's line, by what the line says of it.
-    pub fn of_link(
-        self,
-        rt: &HostRuntime,
-        ledger: &str,
-        number: u64,
-    ) -> Option<Disputed<'c, 't>> {
+    pub fn of_link(self, rt: &HostRuntime, ledger: &str, number: u64) -> Option<Disputed<'c, 't>> {
         let line = frame_again(rt, ledger, number)?;
         let id = line.link?;
         let how = match (self.config.link(id), line.verdict.class) {
@@ -77,12 +72,7 @@ impl<'c, 't> KnownTable<'c, 't> {
     }
 
     /// The link of a copy's line, where the copy comes later than the table's SkewMax allows.
-    pub fn of_copy(
-        self,
-        rt: &HostRuntime,
-        ledger: &str,
-        number: u64,
-    ) -> Option<Disputed<'c, 't>> {
+    pub fn of_copy(self, rt: &HostRuntime, ledger: &str, number: u64) -> Option<Disputed<'c, 't>> {
         let copy = frame_again(rt, ledger, number)?;
         let id = copy.link?;
         let most = self.config.link(id)?.skew;
@@ -184,12 +174,7 @@ fn is_delivery_of(line: &FrameLine, copy: &FrameLine) -> bool {
 }
 
 /// When the number of a copy was delivered last before its line, which has this number.
-fn delivered_before(
-    rt: &HostRuntime,
-    path: &str,
-    number: u64,
-    copy: &FrameLine,
-) -> Option<u64> {
+fn delivered_before(rt: &HostRuntime, path: &str, number: u64, copy: &FrameLine) -> Option<u64> {
     let mut ledger = ledger_again(rt, path)?;
     let mut delivered = None;
     for _ in 1..number {

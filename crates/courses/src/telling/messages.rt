@@ -74,7 +74,9 @@ fn path_of<'a>(command: Invocation<'a>, file: FileOption) -> Option<&'a str> {
 /// The recording that an option names, if it names one.
 fn tap_of<'a>(taps: &'a Taps, file: FileOption) -> Option<&'a Tap> {
     match file {
-        FileOption::A | FileOption::Recording | FileOption::Tap => Some(taps.of_network(Network::A)),
+        FileOption::A | FileOption::Recording | FileOption::Tap => Some(taps.of_network(
+            Network::A,
+        )),
         FileOption::B => Some(taps.of_network(Network::B)),
         _ => None,
     }
