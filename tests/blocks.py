@@ -229,11 +229,6 @@ class Reader:
         elif kind == SIMPLE:
             raise Wrong("simplepacket")
 
-    def listed(self):
-        """The Ethernet interfaces of the last section, as a fault lists them."""
-        found = ((number, self.name_of(number)) for number, one in enumerate(self.interfaces) if one["ethernet"])
-        return ", ".join(f"{number} {name.decode()}" if name else f"{number}" for number, name in found)
-
     def read(self, data):
         """The frames, the ending in a ledger's words, and how many packets are not of Ethernet."""
         try:
@@ -245,6 +240,33 @@ class Reader:
             return self.frames, f"bad {len(self.frames)} {wrong}", self.skipped
         ending = "clean" if self.was_described else "bad"
         return self.frames, f"{ending} {len(self.frames)}" + ("" if self.was_described else " nosuchinterface"), self.skipped
+
+
+def known_as(earlier, number, name):
+    """Which interface of earlier sections this one is: by the names, or where one of the two has none by the numbers."""
+    by_name = [at for at, (_, known) in enumerate(earlier) if name is not None and known == name]
+    by_number = [at for at, (other, known) in enumerate(earlier) if other == number and None in (known, name)]
+    return (by_name + by_number + [None])[0]
+
+
+def listed(data):
+    """The Ethernet interfaces of all sections of a file of whole blocks, each once, as a fault lists them."""
+    earlier, here, count = [], [], 0
+    for order, kind, body in blocks_of(data):
+        if kind == SECTION:
+            earlier, here, count = earlier + here, [], 0
+        elif kind == INTERFACE:
+            one = interface_of(order, body)
+            name = None if one["name"] is None or len(one["name"]) > MAX_NAME else one["name"]
+            at = known_as(earlier, count, name)
+            if not one["ethernet"]:
+                pass
+            elif at is None:
+                here.append((count, name))
+            else:
+                earlier[at] = (count, name or earlier[at][1])
+            count += 1
+    return ", ".join(f"{number} {name.decode()}" if name else f"{number}" for number, name in earlier + here)
 
 
 def note_of(ending, skipped, network=None, late=""):
@@ -284,7 +306,7 @@ class Bench:
         of_file, of_stream = (SUCCESS, note_of(ending, skipped, late=late), expected), (SUCCESS, told, expected)
         if ending.endswith("nosuchinterface"):
             # A file is looked at first; of a stream it shows at the end.
-            of_file, of_stream = (FAULT, f"afdxmon: interfaces RECORDING: {reader.listed()}", b""), (FAULT, told, expected)
+            of_file, of_stream = (FAULT, f"afdxmon: interfaces RECORDING: {listed(data)}", b""), (FAULT, told, expected)
         fault = difference(run(["capture", "--code", EVERY, path + suffix], stdin=subprocess.DEVNULL, stdout=subprocess.PIPE), *of_file)
         stream = "/dev/stdin" + suffix if suffix else "-"
         fault = fault or difference(run(["capture", "--code", EVERY, stream], input=data, stdout=subprocess.PIPE), *of_stream)
@@ -393,9 +415,7 @@ def absent(bench):
     for name, words in (("watch", ["--config", bench.put("table", TABLE.encode()), "--a", "FILE", "--ledger", "OUT"]), ("links", ["--a", "FILE"]), ("cut", ["--ledger", bench.put("ledger", b"afdx-ledger 2\n"), "--a", "FILE", "-o", "OUT"])):
         places = {"FILE": bench.put("in.pcapng", large.bytes()) + ":9", "OUT": bench.put("older", b"older")}
         ran = run([name, *(places.get(word, word) for word in words)], stdin=subprocess.DEVNULL, stdout=subprocess.PIPE)
-        reader = Reader(9)
-        reader.read(large.bytes())
-        fault = difference(ran, FAULT, f"afdxmon: interfaces --a: {reader.listed()}", b"")
+        fault = difference(ran, FAULT, f"afdxmon: interfaces --a: {listed(large.bytes())}", b"")
         with open(places["OUT"], "rb") as out:
             say(f"pcapng: {name} of an interface that isn't there", fault or ("" if out.read() == b"older" else "an output was begun"))
 
@@ -427,6 +447,26 @@ def choices(bench):
     recording = bench.put("plain.pcap", header() + record(5, DATA[0]))
     ran = run(["capture", "--code", EVERY, recording + ":0"], stdin=subprocess.DEVNULL, stdout=subprocess.PIPE)
     say("pcapng: an interface of a pcap file", difference(ran, SUCCESS, "", HEADER + record(5, DATA[0])))
+    of_pcap(bench, recording)
+
+
+def of_pcap(bench, recording):
+    """A pcap file has the interface 0, without a name: another one that is chosen isn't there."""
+    later = bench.put("later.pcap", header() + record(6, DATA[1]))
+    config, older = bench.put("table", TABLE.encode()), bench.put("older", b"older")
+    for choice in (":1", ":eth7", ":00001", ":-"):
+        for words, option in (
+            (["capture", "--code", EVERY, "-o", older], "RECORDING"),
+            (["watch", "--config", config, "--ledger", older, "--a"], "--a"),
+            (["links", "--b"], "--b"),
+            (["check", "--config", config, "--a"], "--a"),
+        ):
+            for files in ([recording + choice], [recording, later + choice]):
+                words_too = [*words, *files] if words[0] != "capture" else [*words[:3], *files, *words[3:]]
+                ran = run(words_too, stdin=subprocess.DEVNULL, stdout=subprocess.PIPE)
+                say(f"pcapng: {words[0]} of {len(files)} pcap files, {choice}", difference(ran, FAULT, f"afdxmon: interfaces {option}: 0", b""))
+    with open(older, "rb") as out:
+        say("pcapng: an interface of a pcap file, refused", "" if out.read() == b"older" else "an output was begun")
 
 
 def wrong(bench):

@@ -13,7 +13,7 @@ from datetime import datetime, timedelta, timezone
 
 import texts
 from harness import FAULT, SUCCESS, difference, frame, header, record, run, run_at_terminal, say
-from reference import parse
+from reference import disorder, lateness_after, parse
 
 MS = 10**6
 START = 1_800_000_000 * 10**9
@@ -289,7 +289,8 @@ def network_line(network, path, recording, frames, ending, kind=None):
     text += f", {moment(min(stamps))} to {moment(max(stamps))}" if stamps else ""
     word, _, *why = ending.split()
     text += "; " + (ENDS[word] if word in ENDS else f"it ends bad: {BAD[why[0]]}") + "\n"
-    return text + (f"fault: of network {network} no frame is read after {count}: {BAD[why[0]]}\n" if word == "bad" else "")
+    late = disorder("check", lateness_after(recording, len(frames))) if why == ["stampback"] else ""
+    return text + (f"fault: of network {network} no frame is read after {count}: {BAD[why[0]]}{late}\n" if word == "bad" else "")
 
 
 def copies_within(frames, skew):
@@ -558,6 +559,27 @@ def of_recordings(work):
         say(f"check: {name}, as JSON", "" if fits else json.dumps(answer)[:600])
 
 
+def of_disorder(work):
+    """A frame out of order, by how much, and the `late_us` of the table that takes it: with that the recording is read whole."""
+    links = [{"id": 5, "name": "brake", "bag_ms": 1, "jitter_us": 0, "smax": 200, "integrity": False, "redundancy": False, "skew_us": 0}]
+    config, path = os.path.join(work, "t.toml"), os.path.join(work, "a.pcap")
+    for late, told in (
+        (999, " by 999 ns (late_us = 1 of the table takes it)"),
+        (1000, " by 1 us (late_us = 1 of the table takes it)"),
+        (1001, " by 1 us (late_us = 2 of the table takes it)"),
+        (10**9, " by 1.000 s (late_us = 1000000 of the table takes it)"),
+        (10**9 + 1, " by 1.000 s"),
+    ):
+        stamps = (START, START + 2 * 10**9, START + 2 * 10**9 - late, START + 3 * 10**9)
+        write(path, header() + b"".join(record(stamp, frame(5, 60, i + 1)) for i, stamp in enumerate(stamps)))
+        for window in (0, -(-late // 1000)):
+            write(config, toml_of(links, late=min(window, 10**6)))
+            line = "" if 0 < window <= 10**6 else f"fault: of network A no frame is read after 2 frames: timestamp out of order{told}\n"
+            ran = asked("--config", config, "--a", path)
+            found = "".join(line + "\n" for line in ran.stdout.decode().splitlines() if line.startswith("fault: "))
+            say(f"check: a frame late by {late} ns, late_us {window}", "" if found == line and ran.returncode == (FAULT if line else SUCCESS) else ran.stdout.decode())
+
+
 def of_inputs(work):
     """Standard input, pcapng, damaged files, a terminal and a full output."""
     chance = random.Random(41)
@@ -620,5 +642,6 @@ def cases():
         of_wide_tables(work)
         of_filters(work)
         of_recordings(work)
+        of_disorder(work)
         of_inputs(work)
         of_long_recordings(work)

@@ -17,8 +17,9 @@ import tempfile
 import pairs
 from analyser import watch
 from blocks import Blocks
-from harness import EVERY, FAULT, LINK5, SUCCESS, USAGE, difference, frame, header, record, run, run_at_terminal, say, skip
+from harness import EVERY, FAULT, LINK5, SUCCESS, USAGE, difference, frame, header, judge, record, run, run_at_terminal, say, skip
 from reference import FILE_STARTS, HEADER, LAYOUTS, MAX_CAPTURED, capture, parse
+from texts import ADVICE, UNREADABLE
 from watching import REASONS, TABLE, Desk
 
 MAGIC = {("<", 1): 0xA1B23C4D, (">", 1): 0xA1B23C4D, ("<", 1000): 0xA1B2C3D4, (">", 1000): 0xA1B2C3D4}
@@ -279,6 +280,27 @@ def refused(desk):
     say("several: a word that is no option's", difference(ran, USAGE, lambda told: "unexpected argument" in told, b""))
 
 
+def unreadable(desk):
+    """A later file that can't be read is named, and why, by each command."""
+    desk.lay(config=TABLE, filter=EVERY)
+    paths = lay(desk.directory, "three", THREE)
+    folder = os.path.join(desk.directory, "folder")
+    os.mkdir(folder)
+    why = f"{folder}: Is a directory (os error 21)\n{UNREADABLE}"
+    unsound = f"afdxmon: check 1 Unsound\n{ADVICE['check 1 Unsound']}\n{why}"
+    for words, line in (
+        ([*desk.arguments(a=None, b=None, capture=None, filter=None), "--a"], f"afdxmon: watch 3 Read A\n{why}"),
+        ([*desk.arguments(a=paths[0], b=None, capture=None, filter=None), "--b"], f"afdxmon: watch 3 Read B\n{why}"),
+        (["capture", "--code", EVERY], f"afdxmon: watch 3 Read A\n{why}"),
+        (["debug", "--filter", desk.paths["filter"], "--tap"], f"afdxmon: watch 3 Read A\n{why}"),
+        (["links", "--a"], f"afdxmon: watch 3 Read A\n{why}"),
+        (["check", "--config", desk.paths["config"], "--b"], unsound),
+    ):
+        for files in ([paths[0], folder], [folder, paths[0]], [*paths, folder]):
+            ran = run([words[0], "-v", *words[1:], *files], stdin=subprocess.DEVNULL, stdout=subprocess.PIPE)
+            judge(f"several: {words[0]} {words[-1]} names a directory, {files.index(folder) + 1} of {len(files)}", ran, FAULT, line)
+
+
 def gaps(desk):
     """`check` tells where nothing was recorded for more than a second between two files, across files without frames too."""
     desk.lay(config=TABLE)
@@ -367,6 +389,35 @@ def pipes(desk):
     say("several: a pipe between files", "" if (process.returncode, out, told) == (SUCCESS, WHOLE, b"") else repr((process.returncode, len(out), told)))
 
 
+def standard_input(desk):
+    """Standard input is named /dev/stdin among several files: `-` is refused there, on the command line and in a list."""
+    desk.lay(config=TABLE, filter=EVERY, ledger="afdx-ledger 2\n")
+    paths = lay(desk.directory, "three", THREE)
+    by_name = [paths[0], "/dev/stdin", paths[2]]
+    judge("several: /dev/stdin between files", run(desk_command(by_name)[1:], input=THREE[1], stdout=subprocess.PIPE), SUCCESS, "", WHOLE)
+    line = "afdxmon: '-' can't be one of several files of a recording: name standard input /dev/stdin there"
+    for words in (
+        ["capture", "--code", EVERY],
+        [*desk.arguments(a=None, b=None), "--a"],
+        [*desk.arguments(b=None), "--b"],
+        ["check", "--config", desk.paths["config"], "--a"],
+        ["links", "--b"],
+        ["cut", "--ledger", desk.paths["ledger"], "--a"],
+        ["debug", "--filter", desk.paths["filter"], "--tap"],
+    ):
+        for files in ([paths[0], "-", paths[2]], ["-", paths[1]], [paths[0], "-"], ["-", "-"]):
+            ran = run([*words, *files], input=THREE[1], stdout=subprocess.PIPE)
+            judge(f"several: {words[0]} {words[-1]} of {len(files)} files, {files.index('-') + 1} is -", ran, USAGE, line, b"")
+    listed = os.path.join(desk.directory, "listed")
+    with open(listed, "w") as out:
+        out.write(f"{paths[0]}\n-\n{paths[2]}\n")
+    ran = run(["capture", "-v", "--code", EVERY, f"@{listed}"], input=THREE[1], stdout=subprocess.PIPE)
+    told = "afdxmon: file RECORDING\nstandard input: it can't be one of several files of a recording: name it /dev/stdin there"
+    judge("several: - in a list of several", ran, FAULT, told, b"")
+    ran = run(["capture", "--code", EVERY, "x", "y", "-o", os.path.join(desk.directory, "out"), "z", "w"], stdin=subprocess.DEVNULL, stdout=subprocess.PIPE)
+    judge("several: files in two places are told as they were typed", ran, USAGE, lambda told: "'z w'" in told and "\0" not in told, b"")
+
+
 def desk_command(paths):
     from harness import PROGRAM
 
@@ -412,6 +463,6 @@ def recorders(desk):
 
 
 def cases():
-    for part in (generated, long_list, other_commands, endings, refused, gaps, windows, lists, manifests, pipes, at_terminal, recorders):
+    for part in (generated, long_list, other_commands, endings, refused, unreadable, gaps, windows, lists, manifests, pipes, standard_input, at_terminal, recorders):
         with tempfile.TemporaryDirectory() as directory:
             part(Desk(directory))

@@ -122,6 +122,38 @@ def closed(desk):
         ran = ended(["bash", "-c", f"{words} {redirection}"], stdout=subprocess.DEVNULL, stderr=subprocess.PIPE)
         fault = difference(ran, FAULT, f"afdxmon: file --{option}")
         say(f"watch: --{option} - {redirection}", fault or desk.compared("capture", OLDER) or desk.compared("ledger", OLDER))
+    closed_of_others(desk)
+
+
+def closed_of_others(desk):
+    """The same of the other commands: a recording that they open isn't taken for the stream."""
+    desk.lay(**{**GIVEN, "ledger": "afdx-ledger 2\n"})
+    config, code, a, ledger = (desk.paths[name] for name in ("config", "filter", "a", "ledger"))
+    for words, option, redirection in (
+        (["capture", "--code", EVERY, a], "--output", ">&-"),
+        (["capture", "--filter", code], "RECORDING", "<&-"),
+        (["cut", "--ledger", ledger, "--a", a], "--output", ">&-"),
+        (["cut", "--ledger", "-", "--a", a, "-o", desk.paths["capture"]], "--ledger", "<&-"),
+        (["report", "--config", config, "--ledger", ledger], "--output", ">&-"),
+        (["links", "--a", a], "-", ">&-"),
+        (["links", "--a", "-"], "--a", "<&-"),
+        (["check", "--config", config, "--a", a], "-", ">&-"),
+        (["asm"], "-", ">&-"),
+        (["asm"], "-", "<&-"),
+        (["debug", "--filter", code, "--tap", a], "-", ">&-"),
+        (["debug", "--filter", code, "--tap", a], "-", "<&-"),
+    ):
+        line, closed = f"afdxmon: file {option}", "output" if redirection == ">&-" else "input"
+        for more, told in ([], line), (["-v"], f"{line}\nstandard {closed} is closed"):
+            typed = " ".join(f"'{word}'" for word in [PROGRAM, *words, *more])
+            ran = ended(["bash", "-c", f"{typed} {redirection}"], stdin=subprocess.DEVNULL, stdout=subprocess.PIPE, stderr=subprocess.PIPE)
+            judge(" ".join([words[0], *more, option, redirection]), ran, FAULT, told, b"")
+    for asked in ("--version",), ("--help",), ("help", "watch"), ("-V",), ("capture", "--help"):
+        with open("/dev/full", "wb") as full:
+            ran = run(list(asked), stdin=subprocess.DEVNULL, stdout=full)
+        judge(f"{' '.join(asked)} on a full disk", ran, FAULT, "afdxmon: file -")
+        ran = ended(["bash", "-c", f"'{PROGRAM}' {' '.join(asked)} >&-"], stdin=subprocess.DEVNULL, stderr=subprocess.PIPE)
+        judge(f"{' '.join(asked)} to a closed standard output", ran, FAULT, "afdxmon: file -")
 
 
 class Files:

@@ -349,9 +349,10 @@ fn selection_advice(option: SelectionOption) -> &'static str {
 fn contradiction_advice(found: Contradiction) -> &'static str {
     match found {
         Contradiction::Link => "a link that the table doesn't have: is it the table of the run?",
-        Contradiction::Copy => "a copy without its delivery before it: was the ledger changed?",
+        Contradiction::Copy =>
+            "a copy without its delivery before it: was the ledger or the table changed?",
         Contradiction::Counts =>
-            "counts that its frames' lines don't give: was the ledger changed?",
+            "counts that its frames' lines don't give: was the ledger or the table changed?",
     }
 }
 

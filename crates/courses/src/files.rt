@@ -1,7 +1,7 @@
 //! That no output is another file of its command, and that the standard streams are there.
 use afdx_frame::Network;
 use command_line::{
-    Fault, FileOption, GivenFile, Inode, Invocation, Named, NamedFile, WatchArguments, is_standard,
+    Fault, FileOption, GivenFile, Inode, Invocation, Named, NamedFile, is_standard,
 };
 use std::alloc::AllocError;
 use std::fs::Metadata;
@@ -9,7 +9,7 @@ use std::io::{ErrorKind, Read, Write};
 use std::os::unix::fs::MetadataExt;
 use std::path::Path;
 use std::{fs, io};
-use tap_inputs::{NO_RUN, Tap, Taps, option_of};
+use tap_inputs::{NO_RUN, Refused, Tap, Taps, option_of};
 
 fn inode_of(metadata: &Metadata) -> Inode {
     Inode {
@@ -80,6 +80,23 @@ fn add_later_files<'a>(
     Ok(())
 }
 
+/// Adds the lists that name files of a recording.
+fn add_lists<'a>(
+    rt: &HostRuntime,
+    named: &mut Vec<NamedFile<'a>>,
+    tap: &'a Tap,
+    option: FileOption,
+) -> Result<(), AllocError> {
+    for path in &tap.lists {
+        named.push(NamedFile {
+            option,
+            is_written: false,
+            named: named_by(rt, path),
+        })?;
+    }
+    Ok(())
+}
+
 /// What the paths of a command's files name.
 fn named_files<'a>(
     rt: &HostRuntime,
@@ -91,8 +108,9 @@ fn named_files<'a>(
         named.push(named_file(rt, file))?;
     }
     for network in [Network::A, Network::B] {
-        let option = option_of(command, network);
-        add_later_files(rt, &mut named, taps.of_network(network), option)?;
+        let (tap, option) = (taps.of_network(network), option_of(command, network));
+        add_later_files(rt, &mut named, tap, option)?;
+        add_lists(rt, &mut named, tap, option)?;
     }
     Ok(named)
 }
@@ -116,20 +134,75 @@ fn is_closed(answer: &io::Result<usize>) -> bool {
     }
 }
 
-/// Is the standard stream that a file is closed?
-fn is_of_closed(rt: &HostRuntime, file: GivenFile<'_>) -> bool {
-    match file.path {
-        Some(path) if is_standard(path) && file.is_written => is_closed(&rt.stdout().write(&[])),
-        Some(path) if is_standard(path) => is_closed(&rt.stdin().read(&mut [])),
-        Some(_) | None => false,
+/// A standard stream.
+#[derive(Clone, Copy, PartialEq, Eq)]
+enum Stream {
+    Input,
+    Output,
+}
+
+impl Stream {
+    fn is_closed(self, rt: &HostRuntime) -> bool {
+        match self {
+            Stream::Input => is_closed(&rt.stdin().read(&mut [])),
+            Stream::Output => is_closed(&rt.stdout().write(&[])),
+        }
+    }
+
+    /// What a person is told of one that is closed.
+    fn closed_words(self) -> &'static str {
+        match self {
+            Stream::Input => "standard input is closed",
+            Stream::Output => "standard output is closed",
+        }
+    }
+
+    /// The standard stream that a file is.
+    fn of(file: GivenFile<'_>) -> Option<Stream> {
+        match file.path {
+            Some(path) if is_standard(path) && file.is_written => Some(Stream::Output),
+            Some(path) if is_standard(path) => Some(Stream::Input),
+            Some(_) | None => None,
+        }
+    }
+
+    /// Does a command read it, or write it, though no option names it?
+    fn is_own_of(self, command: Invocation<'_>) -> bool {
+        match command {
+            Invocation::Asm | Invocation::Debug(_) => true,
+            Invocation::Links(_) | Invocation::Check(_) => self == Stream::Output,
+            _ => false,
+        }
     }
 }
 
-/// Refuses a standard stream of `watch` that is closed: the next file that is opened would get its number.
-pub fn refuse_closed(rt: &HostRuntime, given: &WatchArguments<'_>) -> Result<(), Fault> {
-    let files = Invocation::Watch(*given).files();
-    match files.iter().find(|file| is_of_closed(rt, **file)) {
-        Some(file) => Err(Fault::File(file.option)),
-        None => Ok(()),
+/// The first file of a command that is a closed stream, by its option.
+fn closed_file(rt: &HostRuntime, command: Invocation<'_>) -> Option<(FileOption, Stream)> {
+    for file in command.files() {
+        if let Some(stream) = Stream::of(file).filter(|stream| stream.is_closed(rt)) {
+            return Some((file.option, stream));
+        }
     }
+    None
+}
+
+/// The first stream of a command that is closed, of those that no option names.
+fn closed_stream(rt: &HostRuntime, command: Invocation<'_>) -> Option<(FileOption, Stream)> {
+    let streams = [Stream::Input, Stream::Output];
+    let closed = streams
+        .iter()
+        .find(|stream| stream.is_own_of(command) && stream.is_closed(rt))?;
+    Some((FileOption::Standard, *closed))
+}
+
+/// Refuses a standard stream of a command that is closed: the next file that is opened would get its number.
+pub fn refuse_closed(rt: &HostRuntime, command: Invocation<'_>) -> Result<(), Refused> {
+    let closed = closed_file(rt, command).or_else(|| closed_stream(rt, command));
+    let Some((option, stream)) = closed else {
+        return Ok(());
+    };
+    Err(Refused {
+        source: Some(String::from_str(rt.alloc(), stream.closed_words())?),
+        ..Refused::from(Fault::File(option))
+    })
 }

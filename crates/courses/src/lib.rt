@@ -18,6 +18,7 @@ mod debugging;
 mod drafting;
 mod files;
 mod given;
+mod heard;
 mod outputs;
 mod reporting;
 mod telling;

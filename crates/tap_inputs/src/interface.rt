@@ -1,5 +1,6 @@
 //! Which interface of a pcapng recording is read: a number or a name after its path and a colon. And what is
 //! told of the others.
+use crate::described::described_in;
 use afdx_frame::Network;
 use command_line::{Exit, SkippedNote, is_standard};
 use pcap_io::{BadReason, Ending, Found, ReadSource, TapReader};
@@ -103,6 +104,28 @@ fn is_pcapng(rt: &HostRuntime, path: &str) -> io::Result<bool> {
     Ok(first == SECTION)
 }
 
+/// Does a regular file begin as a pcap file that is read?
+fn is_pcap(rt: &HostRuntime, path: &str) -> bool {
+    if !fs::metadata(rt, path).is_ok_and(|found| found.is_file()) {
+        return false;
+    }
+    match File::open(rt, path) {
+        Ok(file) => TapReader::open(ReadSource::new(file), Network::A, 1, u64::MAX).is_ok(),
+        Err(_) => false,
+    }
+}
+
+/// The interfaces of a pcap file, if the chosen one isn't one of them: it has one, without a name.
+fn other_in_pcap(rt: &HostRuntime, path: &str, choice: Choice) -> Option<String> {
+    match choice {
+        Choice::Any | Choice::Number(0) => None,
+        Choice::Number(_) | Choice::Name(_) if is_pcap(rt, path) => {
+            String::from_str(rt.alloc(), "0").ok()
+        }
+        Choice::Number(_) | Choice::Name(_) => None,
+    }
+}
+
 /// The recording that so many bytes at the start of a file are, whose timestamps may stand in any order.
 pub fn start_of(
     rt: &HostRuntime,
@@ -115,14 +138,14 @@ pub fn start_of(
     TapReader::open(source, Network::A, 1 << 32, u64::MAX).ok()
 }
 
-/// The interfaces at a file's start, if that ends at a packet of a second Ethernet interface.
+/// The interfaces at a file's start, if a packet of a second Ethernet interface stands there.
 fn several_in(rt: &HostRuntime, path: &str) -> Option<String> {
     let mut reader = start_of(rt, path, Choice::Any, LOOKED_AT)?;
     for _ in 0..LOOKED_AT {
         match reader.advance(rt.alloc()) {
             Ok(Found::Frame) => {}
             Ok(Found::End(Ending::Bad(_, BadReason::SeveralInterfaces))) => {
-                return list_of(rt, reader.into_source().interfaces());
+                return list_of(rt, &described_in(rt, path, LOOKED_AT)?);
             }
             Ok(Found::End(_)) | Err(_) => return None,
         }
@@ -143,7 +166,7 @@ fn others_in(rt: &HostRuntime, path: &str, choice: Choice) -> Option<String> {
     let mut reader = start_of(rt, path, choice, u64::MAX)?;
     match reader.advance(rt.alloc()) {
         Ok(Found::End(Ending::Bad(_, BadReason::NoSuchInterface))) => {
-            list_of(rt, reader.into_source().interfaces())
+            list_of(rt, &described_in(rt, path, u64::MAX)?)
         }
         Ok(Found::Frame | Found::End(_)) | Err(_) => None,
     }
@@ -159,13 +182,10 @@ fn shown_name(interface: &Interface) -> Option<&str> {
     }
 }
 
-/// The Ethernet interfaces: the number of each, and its name.
+/// A list of interfaces: the number of each, and its name.
 fn list_of(rt: &HostRuntime, interfaces: &[Interface]) -> Option<String> {
     let mut list = String::new(rt.alloc());
     for interface in interfaces {
-        if !interface.ethernet {
-            continue;
-        }
         let number = interface.number;
         let separator = if list.is_empty() { "" } else { ", " };
         write!(list, "{separator}{number}").ok()?;
@@ -178,10 +198,10 @@ fn list_of(rt: &HostRuntime, interfaces: &[Interface]) -> Option<String> {
 
 /// The Ethernet interfaces of a pcapng file, the number of each and its name, if it begins with packets of
 /// several and none is chosen, or if it doesn't describe the one that is. More than its start is read only
-/// where that has no frame of it.
+/// where that has no frame of it. A pcap file has the interface 0.
 pub fn refused_interfaces(rt: &HostRuntime, path: &str, choice: Choice) -> Option<String> {
     if !is_pcapng(rt, path).unwrap_or(false) {
-        return None;
+        return other_in_pcap(rt, path, choice);
     }
     match choice {
         Choice::Any => several_in(rt, path),

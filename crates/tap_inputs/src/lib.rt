@@ -10,6 +10,7 @@
 #![tactic(auto)]
 
 mod blocks;
+mod described;
 mod disorder;
 mod interface;
 mod opening;
@@ -22,7 +23,7 @@ mod streams;
 mod taps;
 
 pub use blocks::{BLOCK, Blocks, LiveInput, SharedBlocks};
-pub use disorder::Disorder;
+pub use disorder::{Amount, Disorder};
 pub use interface::{Skipped, status_of};
 pub use opening::{open, open_tap};
 pub use pauses::Pauses;

@@ -5,14 +5,14 @@ use crate::streams::Input;
 use afdx_frame::Network;
 use command_line::{
     BETWEEN_FILES, CaptureArguments, CheckArguments, CutArguments, DebugArguments, Fault,
-    FileOption, Inode, Invocation, LinksArguments, WatchArguments,
+    FileOption, Inode, Invocation, LinksArguments, WatchArguments, is_standard,
 };
 use pcap_io::{Found, ReadSource, TapReader, TapSource};
 use pcapng::Choice;
 use std::alloc::AllocError;
 use std::fmt::Write;
 use std::fs;
-use std::fs::File;
+use std::fs::{File, Metadata};
 use std::os::unix::fs::MetadataExt;
 
 /// A file of a recording, and the interface that is read of it.
@@ -26,6 +26,8 @@ pub struct TapFile {
 #[derive(Drop)]
 pub struct Tap {
     pub files: Vec<TapFile>,
+    /// The paths of the lists that name files of it.
+    pub lists: Vec<String>,
 }
 
 /// The recordings of a command: that of network A, or its one recording, and that of network B.
@@ -64,17 +66,15 @@ impl Tap {
     fn of(rt: &HostRuntime, words: Option<&str>) -> Result<Tap, AllocError> {
         let mut tap = Tap {
             files: Vec::new(rt.alloc()),
+            lists: Vec::new(rt.alloc()),
         };
         let Some(words) = words else {
             return Ok(tap);
         };
         for word in words.split(BETWEEN_FILES) {
-            match word
-                .strip_prefix('@')
-                .map(|list| fs::read_to_string(rt, list))
-            {
-                Some(Ok(list)) if !list.trim().is_empty() => tap.add_listed(rt, &list)?,
-                Some(_) | None => tap.add(rt, word)?,
+            match word.strip_prefix('@') {
+                Some(path) => tap.add_list(rt, word, path)?,
+                None => tap.add(rt, word)?,
             }
         }
         Ok(tap)
@@ -85,6 +85,18 @@ impl Tap {
         let path = String::from_str(rt.alloc(), path)?;
         self.files.push(TapFile { path, choice })?;
         Ok(())
+    }
+
+    /// Adds the list at a path, which a word names, and its files.
+    fn add_list(&mut self, rt: &HostRuntime, word: &str, path: &str) -> Result<(), AllocError> {
+        match fs::read_to_string(rt, path) {
+            Ok(list) if !list.trim().is_empty() => {
+                let path = String::from_str(rt.alloc(), path)?;
+                self.lists.push(path)?;
+                self.add_listed(rt, &list)
+            }
+            Ok(_) | Err(_) => self.add(rt, word),
+        }
     }
 
     /// Adds the files of a list: a path a line. Lines without one are passed over.
@@ -215,9 +227,17 @@ pub struct Looked {
 }
 
 impl TapFile {
+    /// What the system says of the file, which standard input isn't one of.
+    fn metadata(&self, rt: &HostRuntime) -> Option<Metadata> {
+        if is_standard(&self.path) {
+            return None;
+        }
+        fs::metadata(rt, &self.path).ok()
+    }
+
     /// Looks at the file, if it is a regular one: a pipe's bytes are read once.
     pub fn look(&self, rt: &HostRuntime, option: FileOption) -> Result<Option<Looked>, Refused> {
-        let Ok(found) = fs::metadata(rt, &self.path) else {
+        let Some(found) = self.metadata(rt) else {
             return Err(Refused::from(Fault::File(option)));
         };
         if !found.is_file() {
@@ -226,9 +246,10 @@ impl TapFile {
         let Ok(file) = File::open(rt, &self.path) else {
             return Err(Refused::from(Fault::File(option)));
         };
+        self.refuse_absent(rt, option)?;
         let first = match TapReader::open(ReadSource::new(file), Network::A, 1, u64::MAX) {
             Ok(reader) => first_of(rt, reader),
-            Err(_) => self.first_of_pcapng(rt, option)?,
+            Err(_) => self.first_of_pcapng(rt),
         };
         Ok(Some(Looked {
             inode: Inode {
@@ -241,8 +262,8 @@ impl TapFile {
     }
 
     /// Refuses a file that begins with packets of several interfaces, if none is chosen, and one that doesn't
-    /// describe the one that is.
-    fn refuse_several(&self, rt: &HostRuntime, option: FileOption) -> Result<(), Refused> {
+    /// have the one that is.
+    fn refuse_absent(&self, rt: &HostRuntime, option: FileOption) -> Result<(), Refused> {
         match refused_interfaces(rt, &self.path, self.choice) {
             Some(listed) => Err(Refused {
                 source: Some(listed),
@@ -252,18 +273,9 @@ impl TapFile {
         }
     }
 
-    /// The timestamp of the first frame of a pcapng file, which has packets of one interface, or describes
-    /// the chosen one.
-    fn first_of_pcapng(
-        &self,
-        rt: &HostRuntime,
-        option: FileOption,
-    ) -> Result<Option<u64>, Refused> {
-        self.refuse_several(rt, option)?;
-        match start_of(rt, &self.path, self.choice, u64::MAX) {
-            Some(reader) => Ok(first_of(rt, reader)),
-            None => Ok(None),
-        }
+    /// The timestamp of the first frame of a pcapng file, of the chosen interface or the only one.
+    fn first_of_pcapng(&self, rt: &HostRuntime) -> Option<u64> {
+        first_of(rt, start_of(rt, &self.path, self.choice, u64::MAX)?)
     }
 }
 
@@ -310,7 +322,7 @@ impl Tap {
         match self.files.as_slice() {
             [] => Ok(None),
             [file] => {
-                file.refuse_several(rt, option)?;
+                file.refuse_absent(rt, option)?;
                 Ok(first.length(rt))
             }
             _ => self.look_at_several(rt, option, late),
