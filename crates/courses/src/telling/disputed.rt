@@ -85,7 +85,8 @@ impl<'c, 't> KnownTable<'c, 't> {
         }
     }
 
-    /// The link that a line of counts has and the table hasn't, or the other way round, or under another name.
+    /// The link that a line of counts has and the table hasn't, or the other way round, or which has another
+    /// name there.
     pub fn of_counts(
         self,
         rt: &HostRuntime,

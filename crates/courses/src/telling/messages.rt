@@ -52,7 +52,8 @@ impl Display for StopNote<'_> {
 /// What the program knows of a command's end, beside how it ended.
 #[derive(Clone, Copy)]
 pub struct Known<'a> {
-    /// The text in which a fault lies, a list of a file's interfaces, or what is wrong with a standard stream.
+    /// The text in which a fault lies, a list of a file's interfaces, or what is wrong with a standard
+    /// stream.
     pub source: Option<&'a str>,
     /// Why the system took an output no longer.
     pub reason: Option<io::Error>,
@@ -224,7 +225,8 @@ fn explain_file(
     }
 }
 
-/// Tells which file of a recording can't be read, and why. A run that reads on threads doesn't say which it is.
+/// Tells which file of a recording can't be read, and why. A run that reads on threads doesn't say which it
+/// is.
 fn explain_read(
     rt: &HostRuntime,
     command: Invocation<'_>,
