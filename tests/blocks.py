@@ -13,6 +13,7 @@ import tempfile
 import pairs
 from harness import EVERY, FAULT, FIRST_64, SUCCESS, PROGRAM, difference, frame, header, record, run, say
 from reference import FILE_STARTS, HEADER, disorder, parse, record_of
+from texts import ADVICE
 from watching import TABLE
 
 SECTION, INTERFACE, OLD_PACKET, SIMPLE, NAMES, STATISTICS, PACKET, CUSTOM = 0x0A0D0D0A, 1, 2, 3, 4, 5, 6, 0xBAD
@@ -229,11 +230,6 @@ class Reader:
         elif kind == SIMPLE:
             raise Wrong("simplepacket")
 
-    def listed(self):
-        """The Ethernet interfaces of the last section, as a fault lists them."""
-        found = ((number, self.name_of(number)) for number, one in enumerate(self.interfaces) if one["ethernet"])
-        return ", ".join(f"{number} {name.decode()}" if name else f"{number}" for number, name in found)
-
     def read(self, data):
         """The frames, the ending in a ledger's words, and how many packets are not of Ethernet."""
         try:
@@ -245,6 +241,38 @@ class Reader:
             return self.frames, f"bad {len(self.frames)} {wrong}", self.skipped
         ending = "clean" if self.was_described else "bad"
         return self.frames, f"{ending} {len(self.frames)}" + ("" if self.was_described else " nosuchinterface"), self.skipped
+
+
+def known_as(earlier, number, name):
+    """Which interface of earlier sections this one is: by the names, or where one of the two has none by the numbers."""
+    by_name = [at for at, (_, known) in enumerate(earlier) if name is not None and known == name]
+    by_number = [at for at, (other, known) in enumerate(earlier) if other == number and None in (known, name)]
+    return (by_name + by_number + [None])[0]
+
+
+def listed(data):
+    """The Ethernet interfaces of all sections of a file of whole blocks, each once, as a fault lists them.
+
+    One that has a name has no number there where it has several, or another interface has it in another section.
+    """
+    known, earlier, count, numbers = [], 0, 0, set()
+    for order, kind, body in blocks_of(data):
+        if kind == SECTION:
+            earlier, count = len(known), 0
+        elif kind == INTERFACE:
+            one = interface_of(order, body)
+            name = None if one["name"] is None or len(one["name"]) > MAX_NAME else one["name"]
+            if one["ethernet"]:
+                at = known_as(known[:earlier], count, name)
+                if at is None:
+                    at = len(known)
+                    known.append((count, name))
+                known[at] = (count, name or known[at][1])
+                numbers.add((at, count))
+            count += 1
+    own = {at for at, number in numbers if all((one == at) == (other == number) for one, other in numbers)}
+    words = ((str(number) if at in own or not name else "", name.decode() if name else "") for at, (number, name) in enumerate(known))
+    return ", ".join(" ".join(filter(None, one)) for one in words) or "none of Ethernet"
 
 
 def note_of(ending, skipped, network=None, late=""):
@@ -284,7 +312,7 @@ class Bench:
         of_file, of_stream = (SUCCESS, note_of(ending, skipped, late=late), expected), (SUCCESS, told, expected)
         if ending.endswith("nosuchinterface"):
             # A file is looked at first; of a stream it shows at the end.
-            of_file, of_stream = (FAULT, f"afdxmon: interfaces RECORDING: {reader.listed()}", b""), (FAULT, told, expected)
+            of_file, of_stream = (FAULT, f"afdxmon: interfaces RECORDING: {listed(data)}", b""), (FAULT, told, expected)
         fault = difference(run(["capture", "--code", EVERY, path + suffix], stdin=subprocess.DEVNULL, stdout=subprocess.PIPE), *of_file)
         stream = "/dev/stdin" + suffix if suffix else "-"
         fault = fault or difference(run(["capture", "--code", EVERY, stream], input=data, stdout=subprocess.PIPE), *of_stream)
@@ -393,9 +421,7 @@ def absent(bench):
     for name, words in (("watch", ["--config", bench.put("table", TABLE.encode()), "--a", "FILE", "--ledger", "OUT"]), ("links", ["--a", "FILE"]), ("cut", ["--ledger", bench.put("ledger", b"afdx-ledger 2\n"), "--a", "FILE", "-o", "OUT"])):
         places = {"FILE": bench.put("in.pcapng", large.bytes()) + ":9", "OUT": bench.put("older", b"older")}
         ran = run([name, *(places.get(word, word) for word in words)], stdin=subprocess.DEVNULL, stdout=subprocess.PIPE)
-        reader = Reader(9)
-        reader.read(large.bytes())
-        fault = difference(ran, FAULT, f"afdxmon: interfaces --a: {reader.listed()}", b"")
+        fault = difference(ran, FAULT, f"afdxmon: interfaces --a: {listed(large.bytes())}", b"")
         with open(places["OUT"], "rb") as out:
             say(f"pcapng: {name} of an interface that isn't there", fault or ("" if out.read() == b"older" else "an output was begun"))
 
@@ -408,6 +434,14 @@ def choices(bench):
     two_of_a_name(bench)
     several = "afdxmon: interfaces RECORDING: 0 eth0, 2 eth1"
     bench.refused("several interfaces", both, several)
+    ran = run(["capture", "-v", "--code", EVERY, bench.path("in.pcapng")], stdin=subprocess.DEVNULL, stdout=subprocess.PIPE)
+    say("pcapng: several interfaces, in full", difference(ran, FAULT, f"{several}\n{bench.path('in.pcapng')}: {ADVICE['interfaces']}", b""))
+    damaged = Blocks().section().interface("eth0", 9).interface("eth1", 9).packet(1, DATA[0]).packet(2, DATA[1], 1).interface("eth2", 9, last=8)
+    bench.refused("an interface whose lengths differ isn't listed", damaged.bytes(), "afdxmon: interfaces RECORDING: 0 eth0, 1 eth1")
+    usb = Blocks().section().interface("usb", 9, link_type=220).packet(1, b"usb").bytes()
+    for name, data, choice in (("another kind alone", usb, ":eth7"), ("no interface", Blocks().section().bytes(), ":0")):
+        bench.refused(f"an interface of a file of {name}", data, "afdxmon: interfaces RECORDING: none of Ethernet", choice)
+    beside_a_dash(bench)
     one = Blocks().section().interface("eth0", 9).interface("eth1", 9)
     for i, data in enumerate(DATA):
         one.packet((SECOND + i) * 10**9, data, 1)
@@ -427,6 +461,40 @@ def choices(bench):
     recording = bench.put("plain.pcap", header() + record(5, DATA[0]))
     ran = run(["capture", "--code", EVERY, recording + ":0"], stdin=subprocess.DEVNULL, stdout=subprocess.PIPE)
     say("pcapng: an interface of a pcap file", difference(ran, SUCCESS, "", HEADER + record(5, DATA[0])))
+    of_pcap(bench, recording)
+
+
+def beside_a_dash(bench):
+    """`-` is standard input, beside a file of that name too: that isn't looked at, and nothing is read twice. The file is `./-`."""
+    bench.put("-", both_networks())
+    late = plain().packet(SECOND * 10**9 + 5000, DATA[0]).packet(SECOND * 10**9, DATA[1])
+    for name, data in (("in order", four(plain(), 10**9).bytes()), ("out of order", late.bytes())):
+        for word, choice in (("-", None), ("-:0", 0), ("-:eth0", "eth0")):
+            frames, ending, skipped = Reader(choice).read(data)
+            ran = run(["capture", "--code", EVERY, "--", word], cwd=bench.directory, input=data, stdout=subprocess.PIPE)
+            expected = HEADER + b"".join(record_of(*one) for one in frames)
+            say(f"pcapng: {word} beside a file -, {name}", difference(ran, SUCCESS, note_of(ending, skipped), expected))
+    ran = run(["capture", "--code", EVERY, "./-"], cwd=bench.directory, stdin=subprocess.DEVNULL, stdout=subprocess.PIPE)
+    say("pcapng: ./- is the file", difference(ran, FAULT, "afdxmon: interfaces RECORDING: 0 eth0, 2 eth1", b""))
+
+
+def of_pcap(bench, recording):
+    """A pcap file has the interface 0, without a name: another one that is chosen isn't there."""
+    later = bench.put("later.pcap", header() + record(6, DATA[1]))
+    config, older = bench.put("table", TABLE.encode()), bench.put("older", b"older")
+    for choice in (":1", ":eth7", ":00001", ":-"):
+        for words, option in (
+            (["capture", "--code", EVERY, "-o", older], "RECORDING"),
+            (["watch", "--config", config, "--ledger", older, "--a"], "--a"),
+            (["links", "--b"], "--b"),
+            (["check", "--config", config, "--a"], "--a"),
+        ):
+            for files in ([recording + choice], [recording, later + choice]):
+                words_too = [*words, *files] if words[0] != "capture" else [*words[:3], *files, *words[3:]]
+                ran = run(words_too, stdin=subprocess.DEVNULL, stdout=subprocess.PIPE)
+                say(f"pcapng: {words[0]} of {len(files)} pcap files, {choice}", difference(ran, FAULT, f"afdxmon: interfaces {option}: 0", b""))
+    with open(older, "rb") as out:
+        say("pcapng: an interface of a pcap file, refused", "" if out.read() == b"older" else "an output was begun")
 
 
 def wrong(bench):

@@ -6,6 +6,7 @@ are looked for among all earlier frames, check sequences by zlib, and the differ
 import json
 import os
 import random
+import struct
 import subprocess
 import tempfile
 import zlib
@@ -13,7 +14,7 @@ from datetime import datetime, timedelta, timezone
 
 import texts
 from harness import FAULT, SUCCESS, difference, frame, header, record, run, run_at_terminal, say
-from reference import parse
+from reference import disorder, lateness_after, parse
 
 MS = 10**6
 START = 1_800_000_000 * 10**9
@@ -289,7 +290,8 @@ def network_line(network, path, recording, frames, ending, kind=None):
     text += f", {moment(min(stamps))} to {moment(max(stamps))}" if stamps else ""
     word, _, *why = ending.split()
     text += "; " + (ENDS[word] if word in ENDS else f"it ends bad: {BAD[why[0]]}") + "\n"
-    return text + (f"fault: of network {network} no frame is read after {count}: {BAD[why[0]]}\n" if word == "bad" else "")
+    late = disorder("check", lateness_after(recording, len(frames))) if why == ["stampback"] else ""
+    return text + (f"fault: of network {network} no frame is read after {count}: {BAD[why[0]]}{late}\n" if word == "bad" else "")
 
 
 def copies_within(frames, skew):
@@ -313,8 +315,8 @@ def nearly_all(count, of):
 class Reference:
     """What the rules say of two recordings, each a list of (stamp, length, bytes), and a table of links."""
 
-    def __init__(self, links, a, b, constant=50331648):
-        self.taps, self.links, self.constant = {"A": a, "B": b}, links, constant
+    def __init__(self, links, a, b, constant, readable):
+        self.taps, self.links, self.constant, self.readable = {"A": a, "B": b}, links, constant, readable
         self.foreign, self.long, self.unlisted, self.by_link = {}, 0, {}, {link["id"]: [] for link in links}
         frames = sorted((stamp, network, k) for network, tap in self.taps.items() for k, (stamp, _, _) in enumerate(tap))
         for stamp, network, k in frames:
@@ -350,33 +352,42 @@ class Reference:
         return nearly_all(sum(zlib.crc32(data[:-4]).to_bytes(4, "little") == data[-4:] for data in whole), len(whole))
 
     def pairs(self):
-        """Frames of A and B and copies, of the links with redundancy management on, and the greatest SkewMax."""
+        """Frames of A and B and copies, of the links with redundancy management on."""
         on = [link for link in self.links if link["redundancy"]]
         count = lambda network: sum(len(self.of(link["id"], network)) for link in on)
         copies = sum(copies_within(self.by_link[link["id"]], link["skew_us"] * 1000) for link in on)
-        return count("A"), count("B"), copies, max((link["skew_us"] * 1000 for link in on), default=0)
+        return count("A"), count("B"), copies
 
-    def difference(self, skew):
-        """How far B's clock is ahead, by most links, and how many say so."""
-        apart = []
+    def difference(self):
+        """How far B's clock is ahead, by most of the links whose pair is further apart than their own SkewMax, how many say so, and how
+        many links have a pair."""
+        apart, met_links = [], 0
         for link in sorted(self.links, key=lambda one: one["id"]):
             if not link["redundancy"]:
                 continue
             a, b = self.of(link["id"], "A")[:32], self.of(link["id"], "B")[:32]
             met = next(((stamp - first) for stamp, number in b for first, same in a if same == number), None)
-            apart += [] if met is None else [met]
+            met_links += met is not None
+            apart += [] if met is None or abs(met) <= link["skew_us"] * 1000 else [met]
         if not apart:
             return None
         support = [sum(abs(one - other) <= 5 * MS for other in apart) for one in apart]
         best = apart[support.index(max(support))]
-        return (best, max(support), len(apart)) if 2 * max(support) >= len(apart) and abs(best) > skew else None
+        return (best, max(support), met_links) if 2 * max(support) >= met_links else None
 
     def overlap(self):
         spans = [(min(tap)[0], max(tap)[0]) for tap in self.taps.values() if tap]
         return None if len(spans) < 2 else not (spans[0][1] < spans[1][0] or spans[1][1] < spans[0][0])
 
+    def empty(self):
+        """The networks whose recording has no frame, and no packet that can't be read."""
+        return [network for network, tap in self.taps.items() if not tap and network in self.readable]
+
     def questions(self):
-        out = []
+        out = [
+            f"was network {network} recorded? Its recording has no frame: look at its tap, or leave the recording out"
+            for network in self.empty()
+        ]
         if self.same():
             out.append("are --a and --b one recording? All their frames are the same")
         else:
@@ -410,13 +421,13 @@ class Reference:
         return out
 
     def clocks(self):
-        a, b, copies, skew = self.pairs()
+        a, b, copies = self.pairs()
         if not (a and b and 2 * copies < a and 2 * copies < b):
             return []
-        told = self.difference(skew)
+        told = self.difference()
         if told is None and not (copies == 0 and self.overlap()):
             return []
-        text = "are the clocks of the taps apart? Hardly a frame is a copy within its SkewMax."
+        text = "are the clocks of the taps apart? Under half of the frames have a copy within SkewMax."
         if told:
             ahead, nanos = "B" if told[0] > 0 else "A", abs(told[0])
             text += f" By equal sequence numbers that of {ahead} is {nanos // 10**9}.{nanos % 10**9:09} s ahead, say {told[1]} of {told[2]} links"
@@ -441,12 +452,14 @@ def toml_of(links, constant=50331648, late=0):
 def expected(config, links, recordings, constant=50331648, late=0, kinds=()):
     """The answer on a sound table and recordings, by network (path, bytes)."""
     text = f"table: {config}: {counted(len(links), 'link')}, constant {constant}\n"
-    taps, faults = {"A": [], "B": []}, 0
+    taps, readable = {"A": [], "B": []}, set()
     for network, (path, recording) in recordings.items():
         taps[network], ending = parse(recording, late)
         text += network_line(network, path, recording, taps[network], ending, dict(kinds).get(network))
-        faults += ending.startswith("bad")
-    about = Reference(links, taps["A"], taps["B"], constant)
+        if not ending.startswith("bad"):
+            readable.add(network)
+    faults = len(recordings) - len(readable)
+    about = Reference(links, taps["A"], taps["B"], constant, readable)
     text += {True: "overlap: the recordings overlap in time\n", False: "overlap: none\n", None: ""}[about.overlap()]
     questions = about.questions()
     text += "".join(f"question: {question}\n" for question in questions) + about.notes()
@@ -496,11 +509,24 @@ def pairs():
     yield "microseconds", links, file_of(a, unit=1000), file_of(b, layout=">", unit=1000)
     for shift in (3 * 10**9, -250 * MS, 7_200 * 10**9, -1_100_000, 30 * MS):
         yield f"the clock of B {shift} ns ahead", links, file_of(a), file_of(b, shift)
+    nine = [{**link, "redundancy": True} for link in links_of(chance, 9)]
+    a9, b9 = sent(chance, nine, 60)
+    for wide in range(10):
+        mixed = [{**link, "skew_us": 5000 if k < wide else 2000} for k, link in enumerate(nine)]
+        for shift in (2_500_000, -2_500_000, 5_500_000):
+            yield f"the clock of B {shift} ns ahead, {wide} of 9 links with a SkewMax of 5 ms", mixed, file_of(a9), file_of(b9, shift)
     yield "no overlap, and other frames", links, file_of(a), file_of(sent(random.Random(5), links, 40)[1], 10**12)
     yield "network A alone", links, file_of(a), None
     yield "network B alone", links, None, file_of(b)
-    yield "an empty recording", links, file_of(a), header()
+    yield "an empty recording of network B", links, file_of(a), header()
+    yield "an empty recording of network A", links, header(), file_of(b)
+    yield "an empty recording alone", links, header(), None
+    yield "a recording whose one frame isn't whole", links, file_of(a), header() + record(b[0][0], frame(9, 60, 1), original=100)
     yield "no frame at all", links, header(), header()
+    unreadable = header() + struct.pack("<IIII", 1, 0, 262145, 262145) + bytes(262145)
+    yield "no frame of B, whose one packet is truncated", links, file_of(a), header() + record(b[0][0], b[0][1])[:-1]
+    yield "a first packet of B that can't be read", links, file_of(a), unreadable
+    yield "an empty recording of A, and of B a first packet that can't be read", links, header(), unreadable
     yield "links that no frame names", links + [{**links[0], "id": (links[0]["id"] + 1) % 65536, "name": "none"}], file_of(a), file_of(b)
     yield "links that the table lacks", links[:2], file_of(a), file_of(b)
     many = [{**link, "name": f"m{k}"} for k, link in enumerate(links_of(chance, 60))]
@@ -538,6 +564,27 @@ def of_recordings(work):
         fits = "".join(told) in text and len(told) == text.count("question: ") and answer["sound"] == text.endswith("yes\n")
         fits = fits and [link["id"] for link in answer["links"]] == sorted(link["id"] for link in links)
         say(f"check: {name}, as JSON", "" if fits else json.dumps(answer)[:600])
+
+
+def of_disorder(work):
+    """A frame out of order, by how much, and the `late_us` of the table that takes it: with that the recording is read whole."""
+    links = [{"id": 5, "name": "brake", "bag_ms": 1, "jitter_us": 0, "smax": 200, "integrity": False, "redundancy": False, "skew_us": 0}]
+    config, path = os.path.join(work, "t.toml"), os.path.join(work, "a.pcap")
+    for late, told in (
+        (999, " by 999 ns (late_us = 1 of the table takes it)"),
+        (1000, " by 1 us (late_us = 1 of the table takes it)"),
+        (1001, " by 1 us (late_us = 2 of the table takes it)"),
+        (10**9, " by 1.000 s (late_us = 1000000 of the table takes it)"),
+        (10**9 + 1, " by 1.000 s"),
+    ):
+        stamps = (START, START + 2 * 10**9, START + 2 * 10**9 - late, START + 3 * 10**9)
+        write(path, header() + b"".join(record(stamp, frame(5, 60, i + 1)) for i, stamp in enumerate(stamps)))
+        for window in (0, -(-late // 1000)):
+            write(config, toml_of(links, late=min(window, 10**6)))
+            line = "" if 0 < window <= 10**6 else f"fault: of network A no frame is read after 2 frames: timestamp out of order{told}\n"
+            ran = asked("--config", config, "--a", path)
+            found = "".join(line + "\n" for line in ran.stdout.decode().splitlines() if line.startswith("fault: "))
+            say(f"check: a frame late by {late} ns, late_us {window}", "" if found == line and ran.returncode == (FAULT if line else SUCCESS) else ran.stdout.decode())
 
 
 def of_inputs(work):
@@ -602,5 +649,6 @@ def cases():
         of_wide_tables(work)
         of_filters(work)
         of_recordings(work)
+        of_disorder(work)
         of_inputs(work)
         of_long_recordings(work)

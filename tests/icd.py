@@ -48,13 +48,14 @@ def written(rows, heads=HEADS, **how):
 
 def seen_values(frames, bag, both):
     """What the frames say: of BAG and jitter only where there are intervals, of integrity where a number follows or doesn't, of
-    redundancy where both networks are recorded, and of skew where there are copies."""
+    redundancy where both networks are recorded, and of skew where there are copies. The size is that of the longest frame, and not
+    a draft's, which is rounded up."""
     if not frames:
         return {}
     sides = sides_of(frames)
     values, at_bag = estimate(frames), estimate(frames, bag * MS)
     gaps = any(side.gaps for side in sides)
-    found = {"smax": values["smax"]}
+    found = {"smax": max(side.size for side in sides) + 4}
     if gaps:
         found.update(bag_ms=values["bag_ms"], jitter_us=at_bag["jitter_us"], integrity=values["integrity"])
     if both:
@@ -216,6 +217,17 @@ def forms(desk):
         ("heads in capitals", plain.replace(",".join(HEADS), ",".join(HEADS).upper())),
         ("columns the other way round", backwards),
         ("other columns", wide),
+        ("every cell in quotes, lines that end in a carriage return", written(rows, quoting=csv.QUOTE_ALL, lineterminator="\r\n")),
+        ("every cell in quotes, semicolons", written(rows, quoting=csv.QUOTE_ALL, delimiter=";")),
+        ("every cell in quotes, after a byte order mark", "\ufeff" + written(rows, quoting=csv.QUOTE_ALL)),
+        ("quotes within cells, and line breaks within quotes", wide.replace('a ""b"", c', 'a ""b""\n,c\n')),
+        ("separators and line breaks of all kinds within quotes", wide.replace('a ""b"", c', 'a;b,\r\n,;\n')),
+        ("two quotes for one within quotes", wide.replace('"a ""b"", c"', '"a""b"')),
+        ("a cell of one quote, within quotes", wide.replace('"a ""b"", c"', '""""')),
+        ("nothing within quotes", wide.replace('"a ""b"", c"', '""')),
+        ("a quote after the first letter of a cell", wide.replace('"a ""b"", c"', 'a"b')),
+        ("a quote in a cell without quotes", wide.replace('"a ""b"", c"', '5" and 6"')),
+        ("a last cell in quotes, and no line break at the end", backwards[:-1] .replace(",1\n", ',"1"\n').replace(",65535", ',"65535"')),
         ("no line break at the end", plain.rstrip("\n")),
         ("blank rows and rows of blank cells", plain.replace("\n500,", "\n\n" + "," * 7 + "\n  ,,,,,,,\n500,")),
         ("identifiers in hexadecimal digits", plain.replace("\n500,", "\n0x1f4,").replace("\n65535,", "\n0xFFFF,")),
@@ -229,7 +241,7 @@ def forms(desk):
 def recorded(desk):
     """Documents and recordings of the same links: what one has and the other, within and beyond."""
     chance = random.Random(33)
-    known = [(10, 4 * MS, 200), (20, 8 * MS, 640), (30, 128 * MS, 1514), (40, MS, 60)]
+    known = [(10, 4 * MS, 200), (20, 8 * MS, 640), (30, 128 * MS, 1514), (40, MS, 60), (50, 2 * MS, 61), (60, 16 * MS, 1513)]
     a, b = sent(chance, known, 60, skew=90_000)
     exact = {}
     for row_id, bag, size in known:
@@ -279,6 +291,24 @@ def refused(desk):
         ("a row that is too long", good + "2,two,2,1,65,true,false,1,\n", "3 cells"),
         ("a row that is too short, after blank lines", good + "\n\n2\n", "5 cells"),
         ("lengths before values", "id,smax\n1,0\n2\n", "3 cells"),
+        ("an open quote in the last column", 'id,remark\n5,"open\n7,q\n9,r\n', "2 cells"),
+        ("an open quote in the last row", 'id,remark\n5,"a\nb"\n7,"', "4 cells"),
+        ("an open quote after a quote in quotes", 'id,remark\n5,p\n7,"a""\n', "3 cells"),
+        ("an open quote after carriage returns", 'id,remark\r\n\r\n5,"a\r\n7,q\r\n', "3 cells"),
+        ("an open quote in the heads", 'id,"remark\n5,p\n', "1 cells"),
+        ("an open quote before values", 'id,smax\n5,0\n7,"64\n', "3 cells"),
+        ("an open quote before lengths", 'id,remark\n5\n7,"a\n', "3 cells"),
+        ("an open quote before a later cell in quotes", 'id,remark\n5,"open\n7,q\n9,"r"\n11,s\n', "2 cells"),
+        ("an open quote in a row's second line", 'id,a,b\n5,"x\ny","z', "3 cells"),
+        ("an open quote after a mark", '\ufeff"id\n5\n', "1 cells"),
+        ("an open quote in the line after that of a mark", '\ufeffid,b\n,"', "2 cells"),
+        ("text after a closing quote", 'id,remark\n5,p\n7,"a" b\n', "3 cells"),
+        ("a space after a closing quote", 'id,remark\n5,"a" \n', "2 cells"),
+        ("text after a closing quote, after a cell of two lines", 'id,remark\n5,"a\nb"\n7,"c"d\n', "4 cells"),
+        ("text after a closing quote, and carriage returns", 'id,remark\r\n5,"a"\r\n7,"b"c\r\n', "3 cells"),
+        ("text after a closing quote, after a mark", '\ufeff"id"x\n5\n', "1 cells"),
+        ("a comma after a closing quote, where semicolons separate", 'id;remark\n5;"a",b\n', "2 cells"),
+        ("a semicolon after a closing quote, where commas separate", 'id,remark\n5,"a";b\n', "2 cells"),
         ("an identifier twice", "id\n5\n6\n5\n", "4 twiceid"),
         ("an identifier twice, once in hexadecimal digits", "id\n16\n0x10\n", "3 twiceid"),
         ("a name twice", "id,name\n5,x\n6,y\n7,x\n", "4 twicename"),
@@ -308,7 +338,7 @@ def told(desk):
         ("id,bag_ms\n5,3\n", "2 Icd at 2 bag_ms", ":2: bag_ms is 1, 2, 4, 8, 16, 32, 64 or 128"),
         ("id,integrity\n5,on\n", "2 Icd at 2 integrity", ":2: a flag is true or false, yes or no, 1 or 0"),
         ("name\nx\n", "2 Icd at 1 head", ":1: the first row has the columns' heads: id, and any of name, bag_ms, jitter_us, smax, integrity, redundancy, skew_us"),
-        ("id,smax\n5\n", "2 Icd at 2 cells", ":2: the row has more or fewer cells than the first"),
+        ("id,smax\n5\n", "2 Icd at 2 cells", ":2: the row has more or fewer cells than the first, or a quote that isn't closed or is followed by text"),
         ("id\n5\n5\n", "2 Icd at 3 twiceid", ":3: an earlier row has the identifier"),
         ("id,name\n5,x\n6,x\n", "2 Icd at 3 twicename", ":3: an earlier row has the name"),
     ):

@@ -9,10 +9,10 @@ import re
 import struct
 import subprocess
 import tempfile
-from decimal import Decimal
+from decimal import ROUND_HALF_UP, Decimal
 from itertools import accumulate
 
-from check import moment
+from check import counted, moment
 from harness import EVERY, FAULT, SUCCESS, difference, frame, header, record, run, say
 from reference import parse
 
@@ -27,9 +27,9 @@ HEAD = """\
 # Check each value against the ICD.
 """
 ENDINGS = {
-    "clean": "# Network {}: {} frames.\n",
-    "cut": "# Network {}: {} frames, then the recording is truncated.\n",
-    "bad": "# Network {}: {} frames, then a packet that can't be read.\n",
+    "clean": "# Network {}: {}.\n",
+    "cut": "# Network {}: {}, then the recording is truncated.\n",
+    "bad": "# Network {}: {}, then a packet that can't be read.\n",
 }
 WRONG = {"foreign", "unconfigured", "toolong", "excess"}
 
@@ -69,6 +69,8 @@ class Side:
     def seen(self, network):
         if not self.stamps:
             return f"# {network}: no frame.\n"
+        if len(self.stamps) == 1:
+            return f"# {network}: 1 frame.\n"
         text = f"# {network}: {len(self.stamps)} frames; of their numbers {self.follow} follow, {self.others} don't.\n"
         if self.gaps:
             reach = f"{min(self.gaps) // 1000} to {max(self.gaps) // 1000} us, median about {about(max(self.median[0], min(self.gaps)))}"
@@ -84,7 +86,7 @@ class Side:
         text = f"# {network}: largest need {most} us, at {moment(at)}"
         text += ", more than a table allows" if most > 100_000 else ""
         enough = [p for p in range(18) if sum(need // 1000 >= 1 << p for need in needs) <= len(self.stamps) // 1000]
-        text += f"; all but 0.1 per cent of the frames need less than {1 << enough[0]} us" if enough else ""
+        text += f"; all but 0.1 per cent of the frames need less than {1 << enough[0]} us" if enough and 1 << enough[0] < most else ""
         return most, text + ".\n"
 
 
@@ -130,7 +132,7 @@ def seen_text(frames, bag):
     text = sides[0].seen("A") + sides[1].seen("B")
     text += "".join(side.needed(network, bag)[1] for network, side in zip("AB", sides))
     copies = len(copies_of([(on, stamp, number) for on, stamp, _, number in frames]))
-    return text + f"# {copies} frames came on both networks.\n"
+    return text + f"# {counted(copies, 'frame')} came on both networks.\n"
 
 
 def keys_text(link, name, values):
@@ -149,11 +151,10 @@ def draft(a, b, wanted=None):
 
 
 def about(nanos):
-    """A length of time in three digits, rounded up."""
-    micros = -(-nanos // 1000)
-    step = 10 ** max(len(str(micros)) - 3, 0)
-    micros = -(-micros // min(step, 1000)) * min(step, 1000)
-    return f"{micros} us" if micros < 1000 else f"{Decimal(micros) / 1000:f} ms"
+    """A length of time, rounded half up to three digits, but to no less than a microsecond and no more than a millisecond."""
+    digit = Decimal(10) ** min(max(Decimal(nanos).adjusted() - 2, 3), 6)
+    rounded = (Decimal(nanos) / digit).quantize(Decimal(1), ROUND_HALF_UP) * digit
+    return f"{int(rounded / 1000)} us" if rounded < MS else f"{Decimal(int(rounded / 1000)) / 1000:f} ms"
 
 
 def window_text(a, b, late):
@@ -179,7 +180,7 @@ def drafted(head, a, b, wanted, texts):
         stamps = [stamp for stamp, _, _ in found]
         late = max([late, *(high - stamp for high, stamp in zip(accumulate(stamps, max), stamps))])
         kind, count = ending.split()[:2]
-        text += ENDINGS[kind].format(network, count)
+        text += ENDINGS[kind].format(network, counted(int(count), "frame"))
         frames += [(stamp, network, k, length, data) for k, (stamp, length, data) in enumerate(found)]
     fields, cut = {}, {}
     strays = 0
@@ -196,7 +197,8 @@ def drafted(head, a, b, wanted, texts):
             strays += 1
             continue
         fields.setdefault(constant, []).append((link, network, stamp, length, data[-1]))
-    text += f"# {unusable} frames weren't recorded whole, or aren't of 60 to 1514 bytes.\n" if unusable else ""
+    several = f"# {unusable} frames weren't recorded whole, or aren't of 60 to 1514 bytes.\n"
+    text += "# 1 frame wasn't recorded whole, or isn't of 60 to 1514 bytes.\n" if unusable == 1 else several if unusable else ""
     main = max(fields, key=lambda constant: len(fields[constant]), default=wanted)
     text += left_out_text([link for link, constant in sorted(cut.items()) if main in (None, constant) and all(
         link != of[0] for of in fields.get(main, []))])
@@ -206,9 +208,10 @@ def drafted(head, a, b, wanted, texts):
         assumed = f"{none}: 0x{GROUP:08x} is assumed" if wanted is None else none
         return text + f"# {assumed}.\nconstant = {GROUP if wanted is None else wanted}\n" + window_text(a, b, late) + texts({})
     for constant, of in fields.items():
-        text += f"# Another constant field: {constant}, in {len(of)} frames.\n" if constant != main else ""
-    text += f"# {strays} frames have further constant fields.\n" if strays else ""
-    text += f"\nconstant = {main}  # {len(fields[main])} frames\n"
+        text += f"# Another constant field: {constant}, in {counted(len(of), 'frame')}.\n" if constant != main else ""
+    several = f"# {strays} frames have further constant fields.\n"
+    text += "# 1 frame has a further constant field.\n" if strays == 1 else several if strays else ""
+    text += f"\nconstant = {main}  # {counted(len(fields[main]), 'frame')}\n"
     text += window_text(a, b, late)
     links = {}
     for link, network, stamp, length, number in fields[main]:
@@ -274,6 +277,17 @@ def pairs():
     yield "an empty recording", (a, header())
     yield "no frame at all", (header(), header())
     yield "another constant field", (a, other + b"".join(record(START + 30, b"\x00" + frame(5, 80, 1)[1:]) for _ in range(3)))
+    yield "one frame of another constant field, and one of another kind", (
+        a, b + record(START + 10**12, b"\x07" + frame(5, 80, 1)[1:]) + record(START + 10**12, b"\x00" + frame(5, 80, 1)[1:]))
+    yield "one frame too long", (a, header() + record(START, frame(9, 1514, 1)) + record(START + 1, frame(9, 1600, 2)))
+    for gap in (144_167_000, 144_500_000, 144_499_999, 999_499, 999_500, 1_004_999, 1_005_000, 9_995_000, 10_049_999, 10_050_000, 99_950_000, 1_000_499_999):
+        yield f"frames {gap} ns apart", (header() + b"".join(record(START + k * gap, frame(7, 80, k % 255 + 1)) for k in range(4)), None)
+    for need, rest in ((246_000, 246_000), (256_000, 256_000), (256_000, 255_999), (257_000, 255_999), (300_000, 200_000), (300_000, 0)):
+        stamps, at = [], START
+        for k in range(1001):
+            stamps.append(at - (need if k == 700 else rest if k % 2 else 0) * (k > 0))
+            at += 4 * MS
+        yield f"a need of {need} ns and others of {rest}", (header() + b"".join(record(stamp, frame(7, 80, k % 255 + 1)) for k, stamp in enumerate(stamps)), None)
     yield "a recording that is cut short", (a[: len(a) // 2 + 3], b)
     for count in (1, 8, 9, 11):
         many = sorted(table(chance, 12))

@@ -316,6 +316,17 @@ def shown_digest(members):
     return f", SHA-256 <code>{members['sha256']}</code>" if members["sha256"] else ""
 
 
+def shown_recording(word, members):
+    """A recording, with how many files it is in, and with each one's digest."""
+    files = members["files"] or []
+    more = f" and {len(files) - 1} more file{'s' if len(files) > 2 else ''}" if len(files) > 1 else ""
+    text = shown_file(word, members).replace("</b>", f"</b>{more}") + f", {grouped(members['frames'])} frames"
+    text += f" from {members['first_utc']} to {members['last_utc']}, ends {members['end']}"
+    text += f" ({members['reason']})" if members["reason"] else ""
+    digested = [(number, file) for number, file in enumerate(files, 1) if file["sha256"]]
+    return text + shown_digest(members) + "".join(shown_file(f"{word}, file {number}", file) + shown_digest(file) for number, file in digested)
+
+
 def shown(manifest):
     """The paragraph of the page's head on the run."""
     program, inputs, outputs = manifest["program"], manifest["inputs"], manifest["outputs"]
@@ -326,11 +337,7 @@ def shown(manifest):
     for word, members in (("table", inputs["config"]), ("filter", inputs["filter"])):
         text += shown_file(word, members) + shown_digest(members) if members else ""
     for word, members in (("A", inputs["a"]), ("B", inputs["b"])):
-        if members:
-            text += shown_file(word, members) + f", {grouped(members['frames'])} frames"
-            text += f" from {members['first_utc']} to {members['last_utc']}, ends {members['end']}"
-            text += f" ({members['reason']})" if members["reason"] else ""
-            text += shown_digest(members)
+        text += shown_recording(word, members) if members else ""
     for word, members in (("capture", outputs["capture"]), ("ledger", outputs["ledger"])):
         text += shown_file(word, members) + shown_digest(members) if members else ""
     return text + "</p>"

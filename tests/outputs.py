@@ -223,11 +223,37 @@ def later_faults(desk):
         say(f"watch: a full disk, and an older {other}", fault or ("" if left and text.startswith(left) else f"{left[:60]!r} begins it"))
 
 
+def lists(desk):
+    """A list of a recording's files is a file of the command too: no output may be it."""
+    desk.lay(**INPUTS)
+    with open(os.path.join(desk.directory, "listed"), "w") as out:
+        out.write(desk.paths["a"] + "\n")
+    os.symlink("listed", os.path.join(desk.directory, "link"))
+    for output in OUTPUTS:
+        for network, path in (("a", "listed"), ("b", "here/listed"), ("a", "link")):
+            refused(desk, f"in a list, by {path}", output, network, **{network: "@listed", output: path})
+    with open(desk.paths["ledger"], "w") as out:
+        out.write("afdx-ledger 2\n")
+    for words, option in (
+        ([*desk.arguments(a="@listed"), "--manifest", "listed"], "manifest"),
+        (["capture", "--code", EVERY, "@listed", "-o", "listed"], "output"),
+        (["capture", "--code", EVERY, "a", "@listed", "-o", "link"], "output"),
+        (["cut", "--ledger", "ledger", "--a", "@listed", "-o", "listed"], "output"),
+        (["cut", "--ledger", "ledger", "--a", "a", "--b", "b", "@listed", "-o", "./listed"], "output"),
+    ):
+        before = standing(desk)
+        ran = run(words, cwd=desk.directory, stdin=subprocess.DEVNULL, stdout=subprocess.PIPE)
+        fault = difference(ran, FAULT, f"afdxmon: file --{option}", b"")
+        say(f"{words[0]}: --{option} is a list of the recording", fault or ("" if standing(desk) == before else "files have changed"))
+    without(desk, "listed", "link")
+
+
 def cases():
     with tempfile.TemporaryDirectory() as directory:
         desk = Desk(directory)
         os.symlink(".", os.path.join(directory, "here"))
         other_files(desk)
+        lists(desk)
         new_files(desk)
         apart(desk)
         devices(desk)

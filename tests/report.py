@@ -15,7 +15,8 @@ import xml.etree.ElementTree as tree
 
 import report_reference
 from cut import stopped
-from harness import FAULT, PROGRAM, SUCCESS, ended, frame, header, record, run, say
+from harness import FAULT, PROGRAM, SUCCESS, difference, ended, frame, header, record, run, say
+from texts import ADVICE
 
 CONSTANT = "constant = 50331648\n"
 WHOLE, HALF = "1,6 0 0 262144,", "1,6 0 0 64,"
@@ -300,6 +301,18 @@ def empty_and_many(folder):
     say("report: 4096 links, half in trouble: page below 1.2 MB", page_fault(table, ledger))
 
 
+def shares(folder):
+    """The share of frames that are discarded, in per cent: rounded down to one decimal, and below a tenth to the first digit."""
+    for wrong, count, shown in ((0, 5, "0.0"), (1, 3, "33.3"), (2, 3, "66.6"), (3, 3, "100.0"), (1, 1000, "0.1"), (3, 2000, "0.1"), (1, 1001, "0.09"),
+                                (1, 2000, "0.05"), (7, 19_331, "0.03"), (9999, 10_000, "99.9"), (1, 12_000, "0.008"), (0, 0, "0.0")):
+        frames = [(i * STEP, OF_NO_LINK if i < wrong else frame(10, 60, i % 255 + 1)) for i in range(count)]
+        table, ledger, _ = ledger_in(folder, table_of(one_link(), ()), {"A": frames, "B": []})
+        page = report(table, ledger).stdout.decode()
+        grouped = f"{wrong:,}".replace(",", "&#8239;")
+        tile = f'<h3>Discarded</h3><p class="big">{grouped}<small> = {shown} %</small>'
+        say(f"report: {wrong} of {count} frames discarded", "" if tile in page else page.partition("<h3>Discarded")[2][:80])
+
+
 def unfinished(folder):
     """What stands of a ledger whose run was stopped: whole lines alone, the beginning of one more, and nothing."""
     chance = random.Random(4)
@@ -367,6 +380,40 @@ def broken(folder):
     told("a part of a line after the total", lambda mine: mine.append("total"), f"report 1 Ledger at {total + 2} newline")
 
 
+def what_is_told(folder):
+    """The table is asked after where its SkewMax or its links can be what differs, and not where the ledger was changed."""
+    links = [dict(one_link()[0], id=number, name=f"link_{number}", skew_us=2000) for number in (10, 11)]
+    taps = {n: [(i * STEP + skew, frame(10, 60, i % 255 + 1)) for i in range(400)] for n, skew in (("A", 0), ("B", 100_000))}
+    table, ledger, _ = ledger_in(folder, table_of(links), taps)
+    with open(ledger, encoding="ascii") as file:
+        lines = file.read().splitlines(True)
+    changed = os.path.join(folder, "changed.ledger")
+    gone = [at for at, line in enumerate(lines) if " deliver " in line][300]
+    counts = [at for at, line in enumerate(lines) if line.startswith("link ")]
+    whole = {word: ADVICE[f"report 2 Contradiction at {at} {word}"] for word, at in (("copy", 2), ("counts", 3))}
+
+    def late(others):
+        """A copy 3 ms after its delivery, after which the link delivers so many other numbers."""
+        line = "{} {} 0 10 {} regular within next {} - 00\n"
+        stamps = [10**18 + i * 1000 for i in range(others + 1)]
+        return [lines[0], *(line.format(at, "A", i + 1, "deliver") for i, at in enumerate(stamps)), line.format(10**18 + 3 * STEP, "B", 1, "copy")]
+
+    asked = f"link_10 has a copy 3000 us after its delivery, and SkewMax 2000 us in the table {table}"
+    for name, mine, at, word, words in (
+        ("a copy whose delivery is gone, and an equal number before", lines[:gone] + lines[gone + 1 :], gone + 1, "copy", None),
+        ("a late copy, 127 other numbers after its delivery", late(127), 130, "copy", asked),
+        ("a late copy, 128 other numbers after its delivery", late(128), 131, "copy", None),
+        ("counts of the first link twice", lines[: counts[1]] + lines[counts[0] :], counts[1] + 1, "counts", None),
+        ("counts of the last link twice", lines[: counts[1] + 1] + lines[counts[1] :], counts[1] + 2, "counts", None),
+        ("no counts of the first link", lines[: counts[0]] + lines[counts[1] :], counts[0] + 1, "counts", f"link_10 of the table {table} has no counts there"),
+    ):
+        with open(changed, "w", encoding="ascii") as file:
+            file.write("".join(mine))
+        told = f"line {at}: link 10 {words}: is it the table of the run?" if words else whole[word]
+        fault = difference(report(table, changed, "-v"), FAULT, f"afdxmon: report 2 Contradiction at {at} {word}\n{changed}: {told}", b"")
+        say(f"report: {name}", fault)
+
+
 def in_a_browser(folder):
     browser = shutil.which("chromium") or shutil.which("chromium-browser")
     if browser is None:
@@ -399,8 +446,10 @@ def cases():
         silences_of_one_network(folder)
         at_the_bounds(folder)
         empty_and_many(folder)
+        shares(folder)
         unfinished(folder)
         broken(folder)
+        what_is_told(folder)
         in_a_browser(folder)
 
 

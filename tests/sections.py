@@ -5,7 +5,7 @@ Expected values are how many packets the rule of docs/FORMATS.md lets through; t
 import subprocess
 import tempfile
 
-from blocks import DATA, SECOND, Bench, Blocks, Reader, note_of
+from blocks import DATA, SECOND, Bench, Blocks, Reader, listed, note_of
 from harness import EVERY, SUCCESS, difference, run, say
 from reference import HEADER, record_of
 
@@ -59,13 +59,38 @@ def later_sections(bench):
         if count == len(sections):
             bench.captured(f"sections: {name}", data)
         else:
-            reader = Reader(None)
-            reader.read(data)
-            bench.refused(f"sections: {name}", data, f"afdxmon: interfaces RECORDING: {reader.listed()}")
+            bench.refused(f"sections: {name}", data, f"afdxmon: interfaces RECORDING: {listed(data)}")
     here = Blocks().section().interface("eth0", 9).interface("eth0", 9).packet(1, DATA[0]).packet(2, DATA[1], 1).bytes()
     bench.refused("two interfaces of a name in one section", here, "afdxmon: interfaces RECORDING: 0 eth0, 1 eth0")
 
 
+# What a fault lists of all sections' interfaces, of which none was chosen, or none that is there: no number that chooses two
+# of them, where their names choose one.
+LISTS = (
+    ("two names of one number", "eth1, eth0", (["eth1"], 0), (["eth0"], 0)),
+    ("one name of two numbers, and another", "eth0, eth1", (["eth0"], 0), (["eth1", "eth0"], 0)),
+    ("a name that comes later, and another", "eth0, eth1", ([None], 0), (["eth0"], 0), (["eth1"], 0)),
+    ("no names, two numbers", "0, 1", ([None], 0), ([None, None], 1)),
+    ("names in another order, and more", "eth0, eth1, 2 usb0, eth2", (["eth0", "eth1", "usb0"], 0), (["eth2", "eth0"], 0)),
+    ("names in the same order", "0 eth0, 1 eth1", (["eth0", "eth1"], 0), (["eth0", "eth1"], 1)),
+    ("a number with a name and without", "eth0, 1, lo", (["eth0", None], 0), (["lo", "eth0"], 0)),
+    ("a name of digits, which are a number", "0, eth0", (["7"], 0), (["eth0"], 0)),
+)
+
+
+def lists(bench):
+    """A fault names the interfaces of all sections, where none is chosen and where the chosen one isn't there."""
+    for name, told, *sections in LISTS:
+        data = named_sections(*sections)
+        bench.refused(f"sections: the list of {name}", data, f"afdxmon: interfaces RECORDING: {told}")
+        bench.refused(f"sections: the list of {name}, one chosen", data, f"afdxmon: interfaces RECORDING: {told}", ":eth7")
+    usb = Blocks().section().interface("usb", 9, link_type=220).section().interface(None, 9).packet(1, DATA[0]).section().interface("eth0", 9).interface("eth1", 9)
+    told = "afdxmon: interfaces RECORDING: 0 eth0, 1 eth1"
+    bench.refused("sections: the list has interfaces of Ethernet alone", usb.packet(2, DATA[1], 1).bytes(), told)
+
+
 def cases():
     with tempfile.TemporaryDirectory() as directory:
-        later_sections(Bench(directory))
+        bench = Bench(directory)
+        later_sections(bench)
+        lists(bench)

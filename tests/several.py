@@ -4,6 +4,7 @@ Expected ledgers and captures are those of the slow analyser over the whole reco
 cuts come from editcap, dumpcap's companion, and tcpdump, where they are there.
 """
 import glob
+import hashlib
 import json
 import os
 import random
@@ -16,8 +17,9 @@ import tempfile
 import pairs
 from analyser import watch
 from blocks import Blocks
-from harness import EVERY, FAULT, LINK5, SUCCESS, USAGE, difference, frame, header, record, run, run_at_terminal, say, skip
+from harness import EVERY, FAULT, LINK5, SUCCESS, USAGE, difference, frame, header, judge, record, run, run_at_terminal, say, skip
 from reference import FILE_STARTS, HEADER, LAYOUTS, MAX_CAPTURED, capture, parse
+from texts import ADVICE, UNREADABLE
 from watching import REASONS, TABLE, Desk
 
 MAGIC = {("<", 1): 0xA1B23C4D, (">", 1): 0xA1B23C4D, ("<", 1000): 0xA1B2C3D4, (">", 1000): 0xA1B2C3D4}
@@ -278,6 +280,27 @@ def refused(desk):
     say("several: a word that is no option's", difference(ran, USAGE, lambda told: "unexpected argument" in told, b""))
 
 
+def unreadable(desk):
+    """A later file that can't be read is named, and why, by each command."""
+    desk.lay(config=TABLE, filter=EVERY)
+    paths = lay(desk.directory, "three", THREE)
+    folder = os.path.join(desk.directory, "folder")
+    os.mkdir(folder)
+    why = f"{folder}: Is a directory (os error 21)\n{UNREADABLE}"
+    unsound = f"afdxmon: check 1 Unsound\n{ADVICE['check 1 Unsound']}\n{why}"
+    for words, line in (
+        ([*desk.arguments(a=None, b=None, capture=None, filter=None), "--a"], f"afdxmon: watch 3 Read A\n{why}"),
+        ([*desk.arguments(a=paths[0], b=None, capture=None, filter=None), "--b"], f"afdxmon: watch 3 Read B\n{why}"),
+        (["capture", "--code", EVERY], f"afdxmon: watch 3 Read A\n{why}"),
+        (["debug", "--filter", desk.paths["filter"], "--tap"], f"afdxmon: watch 3 Read A\n{why}"),
+        (["links", "--a"], f"afdxmon: watch 3 Read A\n{why}"),
+        (["check", "--config", desk.paths["config"], "--b"], unsound),
+    ):
+        for files in ([paths[0], folder], [folder, paths[0]], [*paths, folder]):
+            ran = run([words[0], "-v", *words[1:], *files], stdin=subprocess.DEVNULL, stdout=subprocess.PIPE)
+            judge(f"several: {words[0]} {words[-1]} names a directory, {files.index(folder) + 1} of {len(files)}", ran, FAULT, line)
+
+
 def gaps(desk):
     """`check` tells where nothing was recorded for more than a second between two files, across files without frames too."""
     desk.lay(config=TABLE)
@@ -324,12 +347,42 @@ def lists(desk):
         out.write(f"@odd\r\n{plain[1]}:eth1\r\n{plain[2]}\r\n")
     ran = run(["capture", "--code", EVERY, f"@{chosen}"], cwd=desk.directory, stdin=subprocess.DEVNULL, stdout=subprocess.PIPE)
     say("several: a list with an interface", difference(ran, SUCCESS, "", WHOLE))
+    path = os.path.join(desk.directory, "@odd").encode()
+    refused = "afdxmon: file RECORDING"
+    for name, list_of_one, *how in (
+        ("16777216 bytes", path.rjust(16777216, b"\n"), SUCCESS, "", HEADER + THREE[0][24:]),
+        ("16777217 bytes", path.rjust(16777217, b"\n"), FAULT, refused, b""),
+        ("bytes that aren't UTF-8", path + b"\n\xff", FAULT, refused, b""),
+    ):
+        with open(chosen, "wb") as out:
+            out.write(list_of_one)
+        ran = run(["capture", "--code", EVERY, f"@{chosen}"], stdin=subprocess.DEVNULL, stdout=subprocess.PIPE)
+        say(f"several: a list of {name}", difference(ran, *how))
+    ran = run(["capture", "--code", EVERY, "@/dev/zero"], stdin=subprocess.DEVNULL, stdout=subprocess.PIPE)
+    say("several: a list without an end", difference(ran, FAULT, refused, b""))
     ran = run(["capture", "--code", EVERY, *plain], stdin=subprocess.DEVNULL, stdout=subprocess.PIPE)
     say("several: a file of several interfaces", difference(ran, FAULT, "afdxmon: interfaces RECORDING: 0 eth0, 1 eth1", b""))
 
 
+def lists_without_paths(desk):
+    """A pipe isn't opened again for why it has no path. A list that has more than 16 MiB isn't read for that."""
+    desk.lay(config=TABLE)
+    arguments = [*desk.arguments(a=None, b=None, capture=None, filter=None), "-v", "--a"]
+    fifo, large = (os.path.join(desk.directory, name) for name in ("fifo", "large"))
+    os.mkfifo(fifo)
+    writer = subprocess.Popen(["bash", "-c", f"printf '' > '{fifo}'"])
+    ran = run([*arguments, f"@{fifo}"], stdin=subprocess.DEVNULL, stdout=subprocess.PIPE)
+    writer.wait(timeout=60)
+    judge("several: a list that is a pipe without a path", ran, FAULT, f"afdxmon: file --a\n@{fifo}: {ADVICE['file --a']}", b"")
+    for size, why in ((16777216, "the list has no path"), (16777217, "it has 16777217 bytes")):
+        with open(large, "w") as out:
+            out.write("\n" * size)
+        ran = run([*arguments, f"@{large}"], stdin=subprocess.DEVNULL, stdout=subprocess.PIPE)
+        judge(f"several: a list of {size} bytes without a path", ran, FAULT, f"afdxmon: file --a\n@{large}: {why}\n{ADVICE['file --a']}", b"")
+
+
 def manifests(desk):
-    """The manifest has each file that was read."""
+    """The manifest has each file that was read, and the page's head says how many there are, and has the digest of each."""
     desk.lay(config=TABLE, filter=EVERY)
     paths = lay(desk.directory, "three", THREE)
     path = os.path.join(desk.directory, "run.json")
@@ -340,6 +393,18 @@ def manifests(desk):
     found = (record_of_a["path"], record_of_a["bytes"], record_of_a["frames"], files)
     expected = (paths[0], sum(map(len, THREE)), 60, [(path, len(content)) for path, content in zip(paths, THREE)])
     say("several: manifest", difference(ran, SUCCESS, "", b"") or ("" if found == expected else repr(found)))
+    grouped = lambda number: f"{number:,}".replace(",", "&#8239;")
+    for count, more in ((1, ""), (2, " and 1 more file"), (3, " and 2 more files")):
+        for option in ((), ("--digest",)):
+            desk.watch("--a", *paths[:count], "--manifest", path, *option, a=None, b=None, capture=None, filter=None)
+            ran = run(["report", "--config", desk.paths["config"], "--ledger", desk.paths["ledger"], "--manifest", path], stdout=subprocess.PIPE)
+            head = ran.stdout.decode().partition('<p class="key">')[0]
+            fits = f"<br/>A <b>{paths[0]}</b>{more}: {grouped(sum(map(len, THREE[:count])))} bytes, {20 * count} frames from " in head
+            digests = [hashlib.sha256(content).hexdigest() for content in THREE[:count]] if option else []
+            told = re.findall("<br/>A, file ([0-9]+) <b>([^<]*)</b>: ([0-9&#;]+) bytes, SHA-256 <code>([0-9a-f]+)</code>", head)
+            wanted = [(str(n + 1), paths[n], grouped(len(THREE[n])), digest) for n, digest in enumerate(digests)] if count > 1 else []
+            alone = count > 1 or head.count(f"clean, SHA-256 <code>{''.join(digests)}</code>") == len(digests)
+            say(f"several: the page's head, {count} files {' '.join(option)}", "" if fits and alone and told == wanted else head[-1500:])
 
 
 def pipes(desk):
@@ -353,6 +418,35 @@ def pipes(desk):
     writer.communicate(THREE[1], timeout=60)
     out, told = process.communicate(timeout=60)
     say("several: a pipe between files", "" if (process.returncode, out, told) == (SUCCESS, WHOLE, b"") else repr((process.returncode, len(out), told)))
+
+
+def standard_input(desk):
+    """Standard input is named /dev/stdin among several files: `-` is refused there, on the command line and in a list."""
+    desk.lay(config=TABLE, filter=EVERY, ledger="afdx-ledger 2\n")
+    paths = lay(desk.directory, "three", THREE)
+    by_name = [paths[0], "/dev/stdin", paths[2]]
+    judge("several: /dev/stdin between files", run(desk_command(by_name)[1:], input=THREE[1], stdout=subprocess.PIPE), SUCCESS, "", WHOLE)
+    line = "afdxmon: '-' can't be one of several files of a recording: name standard input /dev/stdin there"
+    for words in (
+        ["capture", "--code", EVERY],
+        [*desk.arguments(a=None, b=None), "--a"],
+        [*desk.arguments(b=None), "--b"],
+        ["check", "--config", desk.paths["config"], "--a"],
+        ["links", "--b"],
+        ["cut", "--ledger", desk.paths["ledger"], "--a"],
+        ["debug", "--filter", desk.paths["filter"], "--tap"],
+    ):
+        for files in ([paths[0], "-", paths[2]], ["-", paths[1]], [paths[0], "-"], ["-", "-"]):
+            ran = run([*words, *files], input=THREE[1], stdout=subprocess.PIPE)
+            judge(f"several: {words[0]} {words[-1]} of {len(files)} files, {files.index('-') + 1} is -", ran, USAGE, line, b"")
+    listed = os.path.join(desk.directory, "listed")
+    with open(listed, "w") as out:
+        out.write(f"{paths[0]}\n-\n{paths[2]}\n")
+    ran = run(["capture", "-v", "--code", EVERY, f"@{listed}"], input=THREE[1], stdout=subprocess.PIPE)
+    told = line.replace("afdxmon: ", "afdxmon: file RECORDING\n")
+    judge("several: - in a list of several", ran, FAULT, told, b"")
+    ran = run(["capture", "--code", EVERY, "x", "y", "-o", os.path.join(desk.directory, "out"), "z", "w"], stdin=subprocess.DEVNULL, stdout=subprocess.PIPE)
+    judge("several: files in two places are told as they were typed", ran, USAGE, lambda told: "'z w'" in told and "\0" not in told, b"")
 
 
 def desk_command(paths):
@@ -400,6 +494,6 @@ def recorders(desk):
 
 
 def cases():
-    for part in (generated, long_list, other_commands, endings, refused, gaps, windows, lists, manifests, pipes, at_terminal, recorders):
+    for part in (generated, long_list, other_commands, endings, refused, unreadable, gaps, windows, lists, lists_without_paths, manifests, pipes, standard_input, at_terminal, recorders):
         with tempfile.TemporaryDirectory() as directory:
             part(Desk(directory))

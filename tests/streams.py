@@ -5,6 +5,7 @@ import itertools
 import os
 import pty
 import select
+import socket
 import subprocess
 import tempfile
 
@@ -122,6 +123,116 @@ def closed(desk):
         ran = ended(["bash", "-c", f"{words} {redirection}"], stdout=subprocess.DEVNULL, stderr=subprocess.PIPE)
         fault = difference(ran, FAULT, f"afdxmon: file --{option}")
         say(f"watch: --{option} - {redirection}", fault or desk.compared("capture", OLDER) or desk.compared("ledger", OLDER))
+    closed_of_others(desk)
+    closed_by_path(desk)
+
+
+def line_of(fault):
+    """The line of a fault, or of the file of an option."""
+    return f"afdxmon: {fault}" if fault.startswith("watch ") else f"afdxmon: file {fault}"
+
+
+def closed_of_others(desk):
+    """The same of the other commands: a recording that they open isn't taken for the stream."""
+    desk.lay(**{**GIVEN, "ledger": "afdx-ledger 2\n"})
+    config, code, a, ledger = (desk.paths[name] for name in ("config", "filter", "a", "ledger"))
+    for words, option, redirection in (
+        (["capture", "--code", EVERY, a], "watch 4 Write capture", ">&-"),
+        (["capture", "--filter", code], "watch 3 Read A", "<&-"),
+        (["cut", "--ledger", ledger, "--a", a], "--output", ">&-"),
+        (["cut", "--ledger", "-", "--a", a, "-o", desk.paths["capture"]], "--ledger", "<&-"),
+        (["report", "--config", config, "--ledger", ledger], "--output", ">&-"),
+        (["links", "--a", a], "-", ">&-"),
+        (["links", "--a", "-"], "--a", "<&-"),
+        (["check", "--config", config, "--a", a], "-", ">&-"),
+        (["asm"], "-", ">&-"),
+        (["asm"], "-", "<&-"),
+        (["debug", "--filter", code, "--tap", a], "-", ">&-"),
+        (["debug", "--filter", code, "--tap", a], "-", "<&-"),
+    ):
+        line, closed = line_of(option), "output" if redirection == ">&-" else "input"
+        for more, told in ([], line), (["-v"], f"{line}\nstandard {closed} is closed"):
+            typed = " ".join(f"'{word}'" for word in [PROGRAM, *words, *more])
+            ran = ended(["bash", "-c", f"{typed} {redirection}"], stdin=subprocess.DEVNULL, stdout=subprocess.PIPE, stderr=subprocess.PIPE)
+            judge(" ".join([words[0], *more, option, redirection]), ran, FAULT, told, b"")
+    for asked in ("--version",), ("--help",), ("help", "watch"), ("-V",), ("capture", "--help"):
+        with open("/dev/full", "wb") as full:
+            ran = run(list(asked), stdin=subprocess.DEVNULL, stdout=full)
+        judge(f"{' '.join(asked)} on a full disk", ran, FAULT, "afdxmon: file -")
+        ran = ended(["bash", "-c", f"'{PROGRAM}' {' '.join(asked)} >&-"], stdin=subprocess.DEVNULL, stderr=subprocess.PIPE)
+        judge(f"{' '.join(asked)} to a closed standard output", ran, FAULT, "afdxmon: file -")
+
+
+# The paths by which the system names a stream, and the stream, by what closes it.
+PATHS = {
+    "<&-": ("input", ["/dev/stdin", "/dev/fd/0", "/proc/self/fd/0"]),
+    ">&-": ("output", ["/dev/stdout", "/dev/fd/1", "/proc/self/fd/1"]),
+    "2>&-": ("error", ["/dev/stderr", "/dev/fd/2", "/proc/self/fd/2"]),
+}
+
+
+def closed_by_path(desk):
+    """The same of a stream that is named by its path in the system, be it as a later file of a recording."""
+    desk.lay(**{**GIVEN, "ledger": ledger_of(WHOLE)})
+    config, code, a, ledger, out = (desk.paths[name] for name in ("config", "filter", "a", "ledger", "capture"))
+    watching = ["watch", "--config", config, "--a", a]
+    for words, option, redirection in (
+        ([*watching, "--ledger", out, "--b"], "--b", "<&-"),
+        (["watch", "--config", config, "--ledger", out, "--a", a], "--a", "<&-"),
+        ([*watching, "--ledger"], "--ledger", ">&-"),
+        ([*watching, "--ledger"], "--ledger", "2>&-"),
+        (["report", "--config", config, "--ledger", ledger, "-o", out, "--baseline"], "--baseline", "<&-"),
+        (["check", "--config", config, "--a", a, "--b"], "--b", "<&-"),
+        (["cut", "--ledger", ledger, "-o", out, "--a", a, "--b"], "--b", "<&-"),
+        (["capture", "--filter", code, a, "-o"], "watch 4 Write capture", ">&-"),
+        (["capture", "--filter", code, "-o", out], "watch 3 Read A", "<&-"),
+    ):
+        stream, paths = PATHS[redirection]
+        told = "" if stream == "error" else f"{line_of(option)}\nstandard {stream} is closed"
+        for path in paths:
+            typed = " ".join(f"'{word}'" for word in [PROGRAM, *words, path, "-v"])
+            ran = ended(["bash", "-c", f"{typed} {redirection}"], stdin=subprocess.DEVNULL, stdout=subprocess.PIPE, stderr=subprocess.PIPE)
+            judge(f"{words[0]} {option} {path} {redirection}", ran, FAULT, told, b"")
+    say("no output was taken for a closed stream", desk.compared("capture", OLDER) or desk.compared("ledger", ledger_of(WHOLE)))
+
+
+def one_pipe_twice(desk):
+    """A pipe that two files are is refused by whatever names, before it is opened. A regular file, or /dev/null, may be read twice."""
+    desk.lay(**{**GIVEN, "ledger": ledger_of(WHOLE)})
+    config, code, a, ledger, out = (desk.paths[name] for name in ("config", "filter", "a", "ledger", "capture"))
+    fifo = os.path.join(desk.directory, "pipe")
+    os.mkfifo(fifo)
+    watching = ["watch", "--config", config, "--ledger", out]
+    twice = "it is read already, and can be read once: name another file"
+    for words, option, told in (
+        ([*watching, "--a", a, "/dev/stdin", "--b", "-"], "--a", f"/dev/stdin: {twice}"),
+        ([*watching, "--a", "-", "--b", "/dev/stdin"], "--b", f"/dev/stdin: {twice}"),
+        ([*watching, "--a", "/dev/fd/0", "--b", "-"], "--b", f"standard input: {twice}"),
+        ([*watching, "--a", fifo, "--b", fifo], "--b", f"{fifo}: {twice}"),
+        (["watch", "--config", "/dev/stdin", "--a", "-", "--ledger", out], "--a", f"standard input: {twice}"),
+        (["check", "--config", config, "--a", "/dev/stdin", "--b", "/proc/self/fd/0"], "--b", f"/proc/self/fd/0: {twice}"),
+        (["report", "--config", config, "--ledger", "-", "--baseline", "/dev/stdin", "-o", out], "--baseline", f"/dev/stdin: {twice}"),
+        (["cut", "--ledger", "-", "--a", "/dev/stdin", "-o", out], "--a", f"/dev/stdin: {twice}"),
+        (["links", "--a", fifo, fifo], "--a", f"{fifo}: {twice}"),
+        (["capture", "--filter", "-", "/dev/stdin", "-o", out], "RECORDING", f"/dev/stdin: {twice}"),
+        (["debug", "--filter", code, "--tap", "/dev/stdin"], "--tap", f"/dev/stdin: {twice}"),
+        (["debug", "--source", "/dev/stdin", "--tap", a], "--source", f"/dev/stdin: {twice}"),
+    ):
+        ran = run([*words, "-v"], input=b"", stdout=subprocess.PIPE)
+        judge(f"{words[0]}: one pipe twice, {option}", ran, FAULT, f"afdxmon: file {option}\n{told}", b"")
+    ours, theirs = socket.socketpair()
+    with ours, theirs:
+        ran = run([*watching, "--a", "-", "--b", "/dev/stdin", "-v"], stdin=theirs, stdout=subprocess.PIPE)
+    judge("watch: one socket twice", ran, FAULT, f"afdxmon: file --b\n/dev/stdin: {twice}", b"")
+    say("the outputs stand", desk.compared("capture", OLDER) or desk.compared("ledger", ledger_of(WHOLE)))
+    ran = run(["watch", "--config", config, "--a", "/dev/null", "--b", "/dev/null", "--ledger", out], stdin=subprocess.DEVNULL, stdout=subprocess.PIPE)
+    judge("watch: /dev/null twice", ran, FAULT, "afdxmon: watch 2 Header A 1 Short", b"")
+    ran = run(["capture", "--filter", "-", "/dev/null"], stdin=subprocess.DEVNULL, stdout=subprocess.PIPE)
+    judge("capture: - and /dev/null are one device", ran, FAULT, "afdxmon: numeric 3 Form at 0", b"")
+    with open(a, "rb") as given:
+        ran = run(["watch", "--config", config, "--a", "-", "--b", "/dev/stdin", "--ledger", "-"], stdin=given, stdout=subprocess.PIPE)
+    judge("watch: - and /dev/stdin are one regular file", ran, SUCCESS, "", ledger_of(watch(TABLE, NO_FRAME, A, A)))
+    os.remove(fifo)
 
 
 class Files:
@@ -363,6 +474,7 @@ def cases():
         standard_output(desk)
         taken(desk)
         closed(desk)
+        one_pipe_twice(desk)
         with tempfile.TemporaryDirectory() as folder:
             files = Files(folder)
             captures(files)

@@ -45,6 +45,7 @@ FOREIGN = "nearly all frames are foreign: is the table's 'constant' that of this
 TOO_LONG = "nearly all frames are too long: does 'smax' count a frame without its check sequence?"
 NO_COPY = "no frame is a copy of another: are the clocks of the taps apart?"
 NUMBERS = "more than one frame in eight is out: does a recording hold check sequences, both networks, or each frame twice? afdxmon check tells"
+REPEATS = "more than one frame in four is excess: does a recording hold both networks, or each frame twice (afdxmon check tells), or is a bag_ms of the table too long?"
 OTHER_TABLE = "more than half of the frames are unconfigured: is the table that of another aircraft?"
 CUT_FRAMES = "more than one frame in a hundred is cut short: record frames whole, tcpdump -s 0"
 FEW_COPIES = "hardly a frame is a copy of another: do the clocks of the taps drift? afdxmon check tells"
@@ -67,20 +68,22 @@ def tap_of(note):
 
 
 def summed(desk, name, config, a, b, hint):
-    """A run at a terminal, and in a pipe with --verbose; and both with --quiet: the notes alone."""
+    """A run at a terminal, where --quiet leaves the notes alone but --verbose asks for all, and in a pipe with --verbose."""
     expected = watch(config, EVERY, a, b)
     ledger = expected.lines + expected.summary
     notes = notes_on(ledger, {"A": a, "B": b})
     told = "".join(f"{note}\n{desk.paths[tap_of(note)]}: {advice_on_ending(note)}\n" for note in notes.splitlines())
-    for more, whole in (((), told + summary_of(ledger, hint)), (("--quiet",), told)):
+    summary = told + summary_of(ledger, hint)
+    for more, whole in (((), summary), (("--quiet",), told), (("--quiet", "--verbose"), summary)):
         desk.lay(config=config, filter=EVERY, a=a, b=b)
         ran = run_at_terminal([*desk.arguments(), *more], stdin=subprocess.DEVNULL)
         fault = "" if (ran.returncode, ran.stderr, ran.stdout) == (SUCCESS, whole, b"") else f"status {ran.returncode}, {ran.stderr!r}, not {whole!r}"
         left = desk.compared("capture", expected.capture) or desk.compared("ledger", ledger)
         say(" ".join(["watch: the summary", *more, "of", name]), fault or left)
+    for more in ((), ("--quiet",)):
         desk.lay(config=config, filter=EVERY, a=a, b=b)
         ran = desk.watch("--verbose", *more)
-        say(" ".join(["watch: the summary in a pipe --verbose", *more, "of", name]), difference(ran, SUCCESS, lambda text: text == whole, b""))
+        say(" ".join(["watch: the summary in a pipe --verbose", *more, "of", name]), difference(ran, SUCCESS, lambda text: text == summary, b""))
     desk.lay(config=config, filter=EVERY, a=a, b=b)
     say(f"watch: --quiet in a pipe, of {name}", difference(desk.watch("--quiet"), SUCCESS, notes, b""))
 
@@ -137,6 +140,10 @@ def cases():
         for held, out, hint in ((21, 3, None), (20, 3, NUMBERS), (5, 10, NUMBERS)):
             jumps = [(10**9 + i * 2 * MS, frame(5, 60, 100 if i % 2 else 200)) for i in range(out)]
             summed(desk, f"{out} frames of {held + out} that are out", TABLE, tap(*frames(held), *jumps), tap(), hint)
+        # The account has credit for two of the frames that come again.
+        for held, excess, hint in ((13, 5, None), (13, 6, REPEATS), (12, 5, REPEATS)):
+            again = [(stamp + 1 + i, data) for i in range(2 + excess) for stamp, data in frames(held)[-1:]]
+            summed(desk, f"{excess} frames of {held + 2 + excess} that are excess", TABLE, tap(*frames(held), *again), tap(), hint)
         both = sorted(sound + frames(20, start=1000), key=lambda one: one[0])
         summed(desk, "both networks in one recording", TABLE, tap(*both), tap(), NUMBERS)
         summed(desk, "frames recorded twice", TABLE, tap(*both), tap(*both), NUMBERS)

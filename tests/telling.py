@@ -32,7 +32,6 @@ SOURCES = (
     (b"l: ret #0 jmp l", "asm 6 Backward at 1", "1:15\nl: ret #0 jmp l\n              ^\n"),
     (b"l: jmp l", "asm 6 Backward at 0", "1:8\nl: jmp l\n       ^\n"),
     (FAR, "asm 7 TooFar at 0", "1:10\n\tjeq #0, l\n\t        ^\n"),
-    (b"\xff", "file -", ""),
     (b"ret #0\r\nld @\r\n", "asm 1 Text 1 Character at 11", "2:4\nld @\n   ^\n"),
     ("/* \u00e9 */ ld @".encode(), "asm 1 Text 1 Character at 12", "1:12\n/* \u00e9 */ ld @\n           ^\n"),
     # A line of 200 bytes is shown, a longer one isn't, nor one with a control character.
@@ -205,6 +204,7 @@ def faults(desk):
     told = []
     for source, line, shown in SOURCES:
         told.append(twice("a source", line, shown and "standard input:" + shown, ["asm"], input=source))
+    no_texts(desk)
     for code, line, shown in CODES + BLANKS:
         lead = f"--code:{shown}" if shown else "--code: "
         told.append(twice(f"the filter {code!r}", line, lead, ["capture", "--code", code], input=header()))
@@ -222,11 +222,28 @@ def faults(desk):
     told.append("check 1 Unsound")  # check.py has it, beside the answer
     told += ["file --manifest", "watch 4 Write manifest"]  # manifest.py has these
     told += ["order --a", "repeated --a"]  # several.py has these
+    told.append("interfaces RECORDING")  # blocks.py has it
     told += [f"report 5 Manifest {what}" for what in ("at 1 form", "version", "table", "ledger")]
     told += little_memory(desk)
     for key in ADVICE:
         if not any((line + " ").startswith(key) for line in told):
             say("each advice", f"no case has the fault {key}")
+
+
+def no_texts(desk):
+    """Standard input that is no text: the reason that is true, of `asm` and of the commands of `debug`."""
+    desk.lay(filter=EVERY, a=header())
+    debug = ["debug", "--filter", desk.paths["filter"], "--tap", desk.paths["a"]]
+    for arguments in (["asm"], debug):
+        for given, reason in (
+            (b"\xff", "not UTF-8 at byte 0"),
+            ("/* \u00e9 */ ret #0 \u00e9".encode()[:-1], "not UTF-8 at byte 16"),
+            (b" " * 16777217, "it has more than 16777216 bytes"),
+        ):
+            twice("no text", "file -", "standard input: ", arguments, advice=reason, input=given)
+        folder = os.open(desk.directory, os.O_RDONLY)
+        twice("a directory as standard input", "file -", "standard input: ", arguments, advice=DIRECTORY, stdin=folder)
+        os.close(folder)
 
 
 def runs(desk):
@@ -344,19 +361,42 @@ def reports(desk):
         with open(ledger, "w", encoding="ascii") as out:
             out.write(text)
         told.append(twice("a report", line, f"{ledger}: ", ["report", "--config", desk.paths["config"], "--ledger", ledger], stdin=subprocess.DEVNULL))
-    of_others = (
-        (LINE.format("deliver").replace(" 5 1 ", " 500 1 "), "link 500 isn't in the table {}"),
-        (LINE.format("-").replace("regular within first", "unconfigured - -"), "link 5 brake is unconfigured there, and the table {} has it"),
-        (LINE.format("both"), "link 5 brake has other integrity checking or redundancy management in the table {}"),
-    )
-    for text, words in of_others:
-        with open(ledger, "w", encoding="ascii") as out:
-            out.write(head + text)
-        advice = "line 2: " + words.format(desk.paths["config"]) + ": is it the table of the run?"
-        arguments = ["report", "--config", desk.paths["config"], "--ledger", ledger]
-        told.append(twice("a report", "report 2 Contradiction at 2 link", f"{ledger}: ", arguments, advice=advice, stdin=subprocess.DEVNULL))
+    told += other_tables(desk, head, ledger)
     arguments = ["report", "--config", desk.paths["config"], "--ledger", desk.directory]
     told.append(twice("a report", "report 3 Read Ledger", f"{desk.directory}: ", arguments, advice=DIRECTORY, stdin=subprocess.DEVNULL))
+    return told
+
+
+# A copy 1500 us after its delivery, counts of link 5, and the same of another link and of a filter.
+LATE_COPY = LINE.format("deliver") + LINE.format("copy").replace("A 0", "B 0").replace("1000000000000000000", "1000000000001500000")
+COUNTED = "link {} frames 1 toolong 0 excess 0 out 0 copy 0 delivered 1\n"
+# What a ledger of another table has after its head, at which line and as what it contradicts this one, and how.
+OF_OTHER_TABLES = (
+    (LINE.format("deliver").replace(" 5 1 ", " 500 1 "), "2 link", "link 500 isn't in the table {}"),
+    (LINE.format("-").replace("regular within first", "unconfigured - -"), "2 link", "link 5 brake is unconfigured there, and the table {} has it"),
+    (LINE.format("both"), "2 link", "link 5 brake has other integrity checking or redundancy management in the table {}"),
+    (LATE_COPY, "3 copy", "link 5 brake has a copy 1500 us after its delivery, and SkewMax 1000 us in the table {}"),
+    (LINE.format("deliver") + COUNTED.format("5 flaps"), "3 counts", "link 5 brake of the table {} is flaps there"),
+    (LINE.format("deliver") + COUNTED.format("4 flaps"), "3 counts", "link 4 isn't in the table {}"),
+    (LINE.format("deliver") + "filter 0 accepted 0\n", "3 counts", "link 5 brake of the table {} has no counts there"),
+)
+
+
+def other_tables(desk, head, ledger):
+    """A ledger of another table, its own and that of an earlier flight: the link, and how both differ."""
+    told, table = [], desk.paths["config"]
+    own = os.path.join(desk.directory, "own.ledger")
+    with open(own, "w", encoding="ascii") as out:
+        out.write(head + LINE.format("deliver"))
+    for text, place, words in OF_OTHER_TABLES:
+        with open(ledger, "w", encoding="ascii") as out:
+            out.write(head + text)
+        line, _ = place.split()
+        advice = f"line {line}: " + words.format(table) + ": is it the table of the run?"
+        arguments = ["report", "--config", table, "--ledger", ledger]
+        told.append(twice("a report", f"report 2 Contradiction at {place}", f"{ledger}: ", arguments, advice=advice, stdin=subprocess.DEVNULL))
+        arguments = ["report", "--config", table, "--ledger", own, "--baseline", ledger]
+        twice("a report of two flights", f"report 6 Baseline 2 Contradiction at {place}", f"{ledger}: ", arguments, advice=advice, stdin=subprocess.DEVNULL)
     return told
 
 

@@ -7,9 +7,12 @@
 mod watcher;
 mod watching;
 
-use analyser::{CommandLine, Exit, Invocation, USAGE, gathered, read_arguments};
+use analyser::{CommandLine, Exit, Fault, FileOption, Invocation, USAGE, gathered, read_arguments};
+use clap::Error;
+use command_line::{Typed, has_standard_among};
 use courses::{
-    Ended, Known, arguments, asm, capture, check, cut, debug, links, report, summarise, tell,
+    Ended, Known, STANDARD_AMONG, arguments, asm, capture, check, cut, debug, links,
+    refuse_streams, report, summarise, tell,
 };
 use std::io;
 use std::io::{ErrorKind, IsTerminal};
@@ -33,6 +36,33 @@ fn gathered_arguments(rt: &HostRuntime) -> io::Result<Vec<String>> {
     Ok(gathered(rt.alloc(), &arguments(rt)?)?)
 }
 
+/// Tells standard error that standard output can't be written, at a terminal why. Gives the exit status.
+fn tell_unprinted(rt: &HostRuntime, error: io::Error) -> u8 {
+    let exit = Exit::Fault(Fault::File(FileOption::Standard));
+    let _ = rt.eprintln(Fault::File(FileOption::Standard));
+    if rt.stderr().is_terminal() {
+        let _ = eprintln!(rt; "standard output: {error}");
+    }
+    exit.status()
+}
+
+/// Prints what clap answers in place of a command: why it refuses the arguments, or the help or the version
+/// that they ask for. Gives the exit status.
+fn print_answer(rt: &HostRuntime, answer: &Error) -> u8 {
+    let Ok(text) = answer.to_string(rt.alloc()) else {
+        let _ = answer.print(rt);
+        return USAGE;
+    };
+    if answer.use_stderr() {
+        let _ = rt.eprint(Typed(&text));
+        return USAGE;
+    }
+    match rt.print(&text) {
+        Ok(()) => 0,
+        Err(error) => tell_unprinted(rt, error),
+    }
+}
+
 /// Carries out a command. An error is a fault that was met before it began.
 fn run<R: Threads + Wait + Sync>(
     rt: &HostRuntime,
@@ -42,6 +72,7 @@ fn run<R: Threads + Wait + Sync>(
     (told, full): (&AtomicBool, bool),
 ) -> Result<Ended, Refused> {
     command.refuse_taken()?;
+    refuse_streams(rt, command, taps)?;
     match command {
         Invocation::Watch(given) => watch(rt, threads, &given, taps, (told, full)),
         Invocation::Asm => Ok(Ended::from(asm(rt)?)),
@@ -85,7 +116,7 @@ fn tell_ended<'x>(
     full: bool,
 ) {
     let known = Known {
-        source: None,
+        source: ended.told.as_deref(),
         reason: ended.reason,
         unread: ended.unread,
         taps,
@@ -97,7 +128,7 @@ fn tell_ended<'x>(
 }
 
 /// Carries out what a command line asks for, and tells standard error how it ended: all of it, where that is
-/// asked for or standard error is a terminal.
+/// asked for or standard error is a terminal. Where it is asked for, a quiet run has its summary too.
 fn carry_out<R: Threads + Wait + Sync>(
     rt: &HostRuntime,
     threads: &R,
@@ -120,7 +151,7 @@ fn carry_out<R: Threads + Wait + Sync>(
         }
         Err(refused) => tell_refused(rt, asked.command, &taps, &refused, full),
     };
-    if full && !quiet {
+    if asked.verbose || (full && !quiet) {
         let _ = summarise(rt, &ended, &taps);
     }
     ended.exit
@@ -135,13 +166,13 @@ fn main(rt: HostRuntime) -> ExitCode {
             return ExitCode::from(USAGE);
         }
     };
+    if has_standard_among(&arguments) {
+        let _ = eprintln!(&rt; "afdxmon: {STANDARD_AMONG}");
+        return ExitCode::from(USAGE);
+    }
     let status = match read_arguments(rt.alloc(), &arguments) {
         Ok(asked) => status_of(&carry_out(&rt, &rt, asked)),
-        // Help and the version are asked for: they go to standard output, and are no mistake.
-        Err(error) => {
-            let _ = error.print(&rt);
-            if error.use_stderr() { USAGE } else { 0 }
-        }
+        Err(answer) => print_answer(&rt, &answer),
     };
     ExitCode::from(status)
 }

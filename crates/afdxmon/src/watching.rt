@@ -8,8 +8,7 @@ use analyser::{
 use bpf_loader::Program;
 use courses::{
     Ended, LedgerWriter, MAX_LATE, RunSums, Spans, TextSums, blocks_of, create, create_hashed,
-    file_in, format_of, is_at_terminal, refuse_closed, refuse_shared, shared, text_of,
-    with_manifest, worst_links,
+    file_in, format_of, is_at_terminal, refuse_shared, shared, text_of, with_manifest, worst_links,
 };
 use pcap_io::WriteSink;
 use pcapng::Interfaces;
@@ -148,6 +147,7 @@ fn settle<'p>(
         worst,
         skipped: Skipped::two(skipped_in(&a), skipped_in(&b)),
         reason: capture_fails.or(ledger_fails),
+        told: None,
         unread: None,
     };
     let read = [a.map(|end| end.sums), b.map(|end| end.sums)];
@@ -281,7 +281,6 @@ pub fn watch<R: Threads + Wait + Sync>(
     if given.capture.is_some_and(|path| is_at_terminal(rt, path)) {
         return Ok(Ended::from(Exit::Terminal));
     }
-    refuse_closed(rt, given)?;
     let (config, programs, texts) = set_up(rt, given)?;
     let analysis = Analysis {
         given,

@@ -25,6 +25,7 @@ hint_by a b totals =
     else if nat_lt (totals.frames / 2) totals.unconfigured then Some hint.OtherTable
     else if nat_lt (totals.frames / 100) totals.cut then Some hint.CutFrames
     else if nat_lt (totals.frames / 8) totals.out then Some hint.Numbers
+    else if nat_lt (totals.frames / 4) totals.excess then Some hint.Repeats
     else if has_no_copy a b totals then Some hint.Clocks else None
 
 unfoldable pub hint_of : Ending → Ending → Totals → Option Hint
@@ -37,6 +38,8 @@ hint_words hint.OtherTable = codes "more than half of the frames are unconfigure
 hint_words hint.CutFrames = codes "more than one frame in a hundred is cut short: record frames whole, tcpdump -s 0"
 hint_words hint.Numbers =
     codes "more than one frame in eight is out: does a recording hold check sequences, both networks, or each frame twice? afdxmon check tells"
+hint_words hint.Repeats =
+    codes "more than one frame in four is excess: does a recording hold both networks, or each frame twice (afdxmon check tells), or is a bag_ms of the table too long?"
 hint_words hint.Clocks = codes "no frame is a copy of another: are the clocks of the taps apart?"
 
 unfoldable pub hint_part : Option Hint → List ℕ

@@ -41,4 +41,4 @@ pub use options::version;
 pub use place::file_of;
 pub use refused::{Written, load_offset, numeric_offset, source_offset, written_as};
 pub use summary::{Hint, Summary, hint_of};
-pub use words::{BETWEEN_FILES, gathered};
+pub use words::{BETWEEN_FILES, Typed, gathered, has_standard_among};

@@ -157,7 +157,9 @@ fn reason_advice(reason: BadReason) -> Option<&'static str> {
         BadReason::StampRange => {
             "the recorder's clock was wrong: the frames from there on are left out"
         }
-        BadReason::SeveralInterfaces => CHOOSE_INTERFACE,
+        BadReason::SeveralInterfaces => {
+            "choose one by its number or name after the path, as flight.pcapng:0"
+        }
         BadReason::TooManyInterfaces => {
             "the rest is left out: a section has at most 256 interfaces"
         }
@@ -195,9 +197,6 @@ impl Display for EndingAdvice {
         )
     }
 }
-
-const CHOOSE_INTERFACE: &str =
-    "choose one by its number or name after the path, as flight.pcapng:0";
 
 const OUT_OF_MEMORY: &str =
     "the system has no memory left for it: end other programs, or raise its limit by ulimit -v";
@@ -349,9 +348,10 @@ fn selection_advice(option: SelectionOption) -> &'static str {
 fn contradiction_advice(found: Contradiction) -> &'static str {
     match found {
         Contradiction::Link => "a link that the table doesn't have: is it the table of the run?",
-        Contradiction::Copy => "a copy without its delivery before it: was the ledger changed?",
+        Contradiction::Copy =>
+            "a copy without its delivery before it: was the ledger or the table changed?",
         Contradiction::Counts =>
-            "counts that its frames' lines don't give: was the ledger changed?",
+            "counts that its frames' lines don't give: was the ledger or the table changed?",
     }
 }
 
@@ -394,7 +394,10 @@ fn icd_advice(fault: IcdFault) -> &'static str {
             "the first row has the columns' heads: id, and any of name, bag_ms, jitter_us, smax, \
              integrity, redundancy, skew_us"
         }
-        IcdFault::Cells { .. } => "the row has more or fewer cells than the first",
+        IcdFault::Cells { .. } => {
+            "the row has more or fewer cells than the first, or a quote that isn't closed or is \
+             followed by text"
+        }
         IcdFault::Value {
             column: Key::Integrity | Key::Redundancy,
             ..
@@ -422,7 +425,9 @@ fn fixed_advice(fault: &Fault) -> &'static str {
         Fault::Debug(fault) => debug_advice(fault),
         Fault::Cut(fault) => cut_advice(fault),
         Fault::Selection { option, .. } => selection_advice(option),
-        Fault::Interfaces(_) => CHOOSE_INTERFACE,
+        Fault::Interfaces(_) => {
+            "choose one of these by name or number, as flight.pcapng:eth0; for a pcap file leave it out"
+        }
         Fault::Order(_) => "give the files of a recording in the order of their first timestamps",
         Fault::Repeated(_) => "give each file of a recording once",
         Fault::Report(fault) | Fault::Baseline(fault) => report_advice(fault),

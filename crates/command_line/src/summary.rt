@@ -25,6 +25,9 @@ pub enum Hint {
     /// The recordings: more than one frame in eight is out. So it is where one holds check sequences, whose
     /// last byte is taken for the sequence number, or both networks, or each frame twice.
     Numbers,
+    /// The recordings: more than one frame in four is excess. So it is where one holds both networks, or each
+    /// frame twice, or where the table has too long a BAG.
+    Repeats,
     /// The clocks of the taps: both networks have frames, and none is the copy of another.
     Clocks,
 }
@@ -45,6 +48,8 @@ pub fn hint_of(a: Ending, b: Ending, totals: &Totals) -> Option<Hint>
         Some(Hint::CutFrames)
     } else if totals.frames / 8 < totals.out {
         Some(Hint::Numbers)
+    } else if totals.frames / 4 < totals.excess {
+        Some(Hint::Repeats)
     } else if 0 < a && 0 < b && 0 < totals.delivered && totals.copy == 0 {
         Some(Hint::Clocks)
     } else {
@@ -71,6 +76,10 @@ fn hint_words(hint: Hint) -> &'static str
         Hint::Numbers => {
             "more than one frame in eight is out: does a recording hold check sequences, both \
              networks, or each frame twice? afdxmon check tells"
+        }
+        Hint::Repeats => {
+            "more than one frame in four is excess: does a recording hold both networks, or each \
+             frame twice (afdxmon check tells), or is a bag_ms of the table too long?"
         }
         Hint::Clocks => "no frame is a copy of another: are the clocks of the taps apart?",
     }

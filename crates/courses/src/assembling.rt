@@ -1,4 +1,5 @@
 //! A filter's source, assembled.
+use crate::heard::Heard;
 use analyser::{AsmRun, run_asm};
 use command_line::Exit;
 use pcap_io::{ReadSource, WriteSink};
@@ -9,17 +10,21 @@ pub fn asm(rt: &HostRuntime) -> Result<Exit, Refused> {
     let AsmRun {
         outcome,
         text,
-        source: _,
+        source,
         sink,
     } = run_asm(
         rt.alloc(),
-        ReadSource::new(rt.stdin()),
+        ReadSource::new(Heard::new(rt)),
         WriteSink::new(Noting::new(rt.stdout())),
     );
     let (flushed, reason) = sink.into_writer().finish();
+    let source = match text {
+        Some(text) => Some(text),
+        None => source.into_reader().told(rt),
+    };
     match Exit::of_text(outcome, flushed) {
         Exit::Fault(fault) => Err(Refused {
-            source: text,
+            source,
             reason,
             ..Refused::from(fault)
         }),

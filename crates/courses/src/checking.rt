@@ -7,12 +7,13 @@ use crate::outputs::Ended;
 use afdx_frame::Network;
 use analyser::filter_of;
 use bpf_loader::Program;
-use command_line::{CheckArguments, Exit, Fault, FileOption, is_standard};
+use command_line::{CheckArguments, Exit, Fault, FileOption, Invocation, is_standard};
+use pcap_io::{BadReason, Ending};
 use run_fault::{MAX_FRAMES, WatchFault};
 use std::alloc::{AllocError, Global};
 use std::fmt::Write;
 use table_check::{TableFault, table_faults};
-use tap_inputs::{NO_RUN, Refused, Tap, TapFiles, Taps, end_of, open_both, tell_gaps};
+use tap_inputs::{Disorder, NO_RUN, Refused, Tap, TapFiles, Taps, end_of, open_both, tell_gaps};
 use traffic_survey::{
     Extent, Inputs, Look, Pass, Question, Reach, Recorded, link_questions, questions_of,
     show_recordings,
@@ -39,8 +40,24 @@ fn shown_path(path: &str) -> &str {
     }
 }
 
+/// By how much the frame is out of order that ends a recording, if one does.
+fn disorder_of(
+    rt: &HostRuntime,
+    given: &CheckArguments<'_>,
+    tap: &Tap,
+    recorded: Recorded,
+) -> Option<Disorder> {
+    match recorded.ending {
+        Ending::Bad(count, BadReason::StampBack) => {
+            Disorder::of(rt, Invocation::Check(*given), tap, count)
+        }
+        _ => None,
+    }
+}
+
 fn tap_answer<'a>(
     rt: &HostRuntime,
+    given: &CheckArguments<'_>,
     (network, tap): (Network, &Tap),
     name: &'a str,
     source: TapFiles<'_>,
@@ -55,6 +72,7 @@ fn tap_answer<'a>(
         name,
         format: end.format,
         recorded,
+        disorder: disorder_of(rt, given, tap, recorded),
         skipped: end.skipped,
     })
 }
@@ -98,8 +116,8 @@ fn read_recordings<'a>(
     let Pass { outcome, a, b } = show_recordings(rt.alloc(), extent, a, b, inputs);
     match outcome {
         Ok((of_a, of_b)) => Ok(Passed {
-            a: tap_answer(rt, tap_a, names[0], a, of_a),
-            b: tap_answer(rt, tap_b, names[1], b, of_b),
+            a: tap_answer(rt, given, tap_a, names[0], a, of_a),
+            b: tap_answer(rt, given, tap_b, names[1], b, of_b),
             unread: None,
         }),
         Err(WatchFault::Memory) => Err(Refused::from(NO_RUN)),
@@ -155,6 +173,14 @@ fn reach_of(tap: Option<TapAnswer<'_>>) -> Option<Reach> {
         greatest: span.greatest,
         whole: recorded.whole,
     })
+}
+
+/// Does a recording end without a frame, and without a packet that can't be read?
+fn is_empty(tap: Option<TapAnswer<'_>>) -> bool {
+    match tap {
+        Some(tap) => matches!(tap.recorded.ending, Ending::Clean(0) | Ending::Cut(0)),
+        None => false,
+    }
 }
 
 /// The table of a text without a fault.
@@ -230,6 +256,8 @@ fn tell_inputs(
     let look = Look {
         a: reach_of(passed.a),
         b: reach_of(passed.b),
+        empty_a: is_empty(passed.a),
+        empty_b: is_empty(passed.b),
     };
     let questions = all_questions(rt.alloc(), inputs, look)?;
     let answer = Answer {

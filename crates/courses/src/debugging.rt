@@ -1,5 +1,6 @@
 //! Sessions of the debugger: commands of standard input, or typed at a terminal.
 use crate::given::{filter, late_of};
+use crate::heard::Heard;
 use crate::outputs::{Ended, file_in};
 use afdx_frame::{Network, TapFrame};
 use analyser::{HeldTap, TapRead, answer_line, begin_session, read_tap, run_session};
@@ -34,10 +35,13 @@ fn debug_input(rt: &HostRuntime, program: Program, tap: HeldTap) -> Ended {
     let Ok(output) = BufWriter::with_capacity(rt.alloc(), BLOCK, rt.stdout()) else {
         return Ended::from(Exit::Fault(NO_SESSION));
     };
-    let mut commands = ReadSource::new(rt.stdin());
+    let mut commands = ReadSource::new(Heard::new(rt));
     let mut sink = WriteSink::new(Noting::new(output));
     let outcome = run_session(rt.alloc(), program, tap.frames, &mut commands, &mut sink);
-    ended_by(sink, tap.ending, outcome)
+    Ended {
+        told: commands.into_reader().told(rt),
+        ..ended_by(sink, tap.ending, outcome)
+    }
 }
 
 /// What a person is told at the start of a session.

@@ -1,15 +1,17 @@
-//! That no output is another file of its command, and that the standard streams are there.
+//! That no output is another file of its command, that the standard streams are there, and that no two files
+//! that are read are one pipe.
 use afdx_frame::Network;
 use command_line::{
-    Fault, FileOption, GivenFile, Inode, Invocation, Named, NamedFile, WatchArguments, is_standard,
+    Fault, FileOption, GivenFile, Inode, Invocation, Named, NamedFile, is_standard,
 };
+use run_fault::{Output, WatchFault};
 use std::alloc::AllocError;
 use std::fs::Metadata;
 use std::io::{ErrorKind, Read, Write};
 use std::os::unix::fs::MetadataExt;
 use std::path::Path;
 use std::{fs, io};
-use tap_inputs::{NO_RUN, Tap, Taps, option_of};
+use tap_inputs::{NO_RUN, Refused, Tap, Taps, option_of};
 
 fn inode_of(metadata: &Metadata) -> Inode {
     Inode {
@@ -63,21 +65,77 @@ fn named_file<'a>(rt: &HostRuntime, file: GivenFile<'a>) -> NamedFile<'a> {
     }
 }
 
+/// Adds the standard streams that a command reads, or writes, though no option names them.
+fn add_own_streams(
+    files: &mut Vec<GivenFile<'_>>,
+    command: Invocation<'_>,
+) -> Result<(), AllocError> {
+    let (reads, writes) = match command {
+        Invocation::Asm | Invocation::Debug(_) => (true, true),
+        Invocation::Links(_) | Invocation::Check(_) => (false, true),
+        _ => (false, false),
+    };
+    for (is_there, is_written) in [(reads, false), (writes, true)] {
+        if is_there {
+            files.push(GivenFile {
+                option: FileOption::Standard,
+                path: Some("-"),
+                is_written,
+            })?;
+        }
+    }
+    Ok(())
+}
+
 /// Adds the files of a recording after its first one.
 fn add_later_files<'a>(
-    rt: &HostRuntime,
-    named: &mut Vec<NamedFile<'a>>,
+    files: &mut Vec<GivenFile<'a>>,
     tap: &'a Tap,
     option: FileOption,
 ) -> Result<(), AllocError> {
     for file in tap.files.iter().skip(1) {
-        named.push(NamedFile {
+        files.push(GivenFile {
             option,
+            path: Some(&file.path),
             is_written: false,
-            named: named_by(rt, &file.path),
         })?;
     }
     Ok(())
+}
+
+/// Adds the lists that name files of a recording.
+fn add_lists<'a>(
+    files: &mut Vec<GivenFile<'a>>,
+    tap: &'a Tap,
+    option: FileOption,
+) -> Result<(), AllocError> {
+    for path in &tap.lists {
+        files.push(GivenFile {
+            option,
+            path: Some(path),
+            is_written: false,
+        })?;
+    }
+    Ok(())
+}
+
+/// All files of a command.
+fn all_files<'a>(
+    rt: &HostRuntime,
+    command: Invocation<'a>,
+    taps: &'a Taps,
+) -> Result<Vec<GivenFile<'a>>, AllocError> {
+    let mut files = Vec::new(rt.alloc());
+    add_own_streams(&mut files, command)?;
+    for file in command.files() {
+        files.push(file)?;
+    }
+    for network in [Network::A, Network::B] {
+        let (tap, option) = (taps.of_network(network), option_of(command, network));
+        add_later_files(&mut files, tap, option)?;
+        add_lists(&mut files, tap, option)?;
+    }
+    Ok(files)
 }
 
 /// What the paths of a command's files name.
@@ -86,13 +144,10 @@ fn named_files<'a>(
     command: Invocation<'a>,
     taps: &'a Taps,
 ) -> Result<Vec<NamedFile<'a>>, AllocError> {
+    let files = all_files(rt, command, taps)?;
     let mut named = Vec::new(rt.alloc());
-    for file in command.files() {
-        named.push(named_file(rt, file))?;
-    }
-    for network in [Network::A, Network::B] {
-        let option = option_of(command, network);
-        add_later_files(rt, &mut named, taps.of_network(network), option)?;
+    for file in &files {
+        named.push(named_file(rt, *file))?;
     }
     Ok(named)
 }
@@ -116,20 +171,147 @@ fn is_closed(answer: &io::Result<usize>) -> bool {
     }
 }
 
-/// Is the standard stream that a file is closed?
-fn is_of_closed(rt: &HostRuntime, file: GivenFile<'_>) -> bool {
-    match file.path {
-        Some(path) if is_standard(path) && file.is_written => is_closed(&rt.stdout().write(&[])),
-        Some(path) if is_standard(path) => is_closed(&rt.stdin().read(&mut [])),
-        Some(_) | None => false,
+/// A standard stream.
+#[derive(Clone, Copy)]
+enum Stream {
+    Input,
+    Output,
+    Error,
+}
+
+/// The standard stream that a path of the system names.
+fn names_standard(path: &str) -> Option<Stream> {
+    match path {
+        "/dev/stdin" | "/dev/fd/0" | "/proc/self/fd/0" => Some(Stream::Input),
+        "/dev/stdout" | "/dev/fd/1" | "/proc/self/fd/1" => Some(Stream::Output),
+        "/dev/stderr" | "/dev/fd/2" | "/proc/self/fd/2" => Some(Stream::Error),
+        _ => None,
     }
 }
 
-/// Refuses a standard stream of `watch` that is closed: the next file that is opened would get its number.
-pub fn refuse_closed(rt: &HostRuntime, given: &WatchArguments<'_>) -> Result<(), Fault> {
-    let files = Invocation::Watch(*given).files();
-    match files.iter().find(|file| is_of_closed(rt, **file)) {
-        Some(file) => Err(Fault::File(file.option)),
-        None => Ok(()),
+impl Stream {
+    fn is_closed(self, rt: &HostRuntime) -> bool {
+        match self {
+            Stream::Input => is_closed(&rt.stdin().read(&mut [])),
+            Stream::Output => is_closed(&rt.stdout().write(&[])),
+            Stream::Error => is_closed(&rt.stderr().write(&[])),
+        }
     }
+
+    /// What a person is told of one that is closed.
+    fn closed_words(self) -> &'static str {
+        match self {
+            Stream::Input => "standard input is closed",
+            Stream::Output => "standard output is closed",
+            Stream::Error => "standard error is closed",
+        }
+    }
+
+    /// The standard stream that a file is.
+    fn of(file: GivenFile<'_>) -> Option<Stream> {
+        match file.path {
+            Some(path) if !is_standard(path) => names_standard(path),
+            Some(_) if file.is_written => Some(Stream::Output),
+            Some(_) => Some(Stream::Input),
+            None => None,
+        }
+    }
+}
+
+/// The fault of a file that is a closed stream. `capture` tells it as any failure of its recording's source
+/// and of its output.
+fn fault_of_closed(command: Invocation<'_>, file: GivenFile<'_>) -> Fault {
+    match (command, file.option) {
+        (Invocation::Capture(_), FileOption::Recording) => {
+            Fault::Watch(WatchFault::Read {
+                network: Network::A,
+            })
+        }
+        (Invocation::Capture(_), FileOption::Output) => {
+            Fault::Watch(WatchFault::Write {
+                output: Output::Capture,
+            })
+        }
+        _ => Fault::File(file.option),
+    }
+}
+
+/// Refuses a standard stream that is closed: the next file that is opened would get its number.
+fn refuse_closed(
+    rt: &HostRuntime,
+    command: Invocation<'_>,
+    files: &[GivenFile<'_>],
+) -> Result<(), Refused> {
+    for file in files {
+        if let Some(stream) = Stream::of(*file).filter(|stream| stream.is_closed(rt)) {
+            return Err(Refused {
+                source: Some(String::from_str(rt.alloc(), stream.closed_words())?),
+                ..Refused::from(fault_of_closed(command, *file))
+            });
+        }
+    }
+    Ok(())
+}
+
+/// The number of the device /dev/null, which gives each of its readers the same: nothing.
+const NULL_DEVICE: u64 = 0x103;
+
+/// A pipe, a socket or a device at a path, each of whose bytes one reader alone gets.
+fn pipe_at(rt: &HostRuntime, path: &str) -> Option<Inode> {
+    let path = if is_standard(path) {
+        "/dev/stdin"
+    } else {
+        path
+    };
+    let found = fs::metadata(rt, path).ok()?;
+    if found.is_file() || found.is_dir() || found.rdev() == NULL_DEVICE {
+        None
+    } else {
+        Some(inode_of(&found))
+    }
+}
+
+/// The fault of a file that is the pipe of an earlier one.
+fn read_already(rt: &HostRuntime, option: FileOption, path: &str) -> Refused {
+    let name = if is_standard(path) {
+        "standard input"
+    } else {
+        path
+    };
+    let told = format!(in rt.alloc();
+        "{name}: it is read already, and can be read once: name another file"
+    );
+    Refused {
+        source: told.ok(),
+        ..Refused::from(Fault::File(option))
+    }
+}
+
+/// Refuses a pipe that two files are which are read: each would get a part of its bytes.
+fn refuse_pipe_twice(rt: &HostRuntime, files: &[GivenFile<'_>]) -> Result<(), Refused> {
+    let mut pipes: Vec<Inode> = Vec::new(rt.alloc());
+    for file in files {
+        let (false, Some(path)) = (file.is_written, file.path) else {
+            continue;
+        };
+        let Some(pipe) = pipe_at(rt, path) else {
+            continue;
+        };
+        if pipes.contains(&pipe) {
+            return Err(read_already(rt, file.option, path));
+        }
+        pipes.push(pipe).map_err(|_| NO_RUN)?;
+    }
+    Ok(())
+}
+
+/// Refuses a stream of a command that is closed, and one that two of its files are read from. Opens nothing.
+pub fn refuse_streams(
+    rt: &HostRuntime,
+    command: Invocation<'_>,
+    taps: &Taps,
+) -> Result<(), Refused> {
+    let files = all_files(rt, command, taps)?;
+    refuse_closed(rt, command, &files)?;
+    refuse_pipe_twice(rt, &files)
 }

@@ -18,6 +18,7 @@ mod debugging;
 mod drafting;
 mod files;
 mod given;
+mod heard;
 mod outputs;
 mod reporting;
 mod telling;
@@ -28,11 +29,11 @@ pub use checking::check;
 pub use cutting::cut;
 pub use debugging::debug;
 pub use drafting::links;
-pub use files::{refuse_closed, refuse_shared};
+pub use files::{refuse_shared, refuse_streams};
 pub use given::{MAX_LATE, is_at_terminal, text_of};
 pub use outputs::{
     Ended, LedgerWriter, RunSums, Spans, TextSums, arguments, blocks_of, create, create_hashed,
     file_in, format_of, shared, summarise, with_manifest, worst_links,
 };
 pub use reporting::report;
-pub use telling::{Known, tell};
+pub use telling::{Known, STANDARD_AMONG, tell};

@@ -3,5 +3,7 @@
 
 mod disputed;
 mod messages;
+mod reason;
 
-pub use messages::{Known, tell};
+pub use messages::{Known, STANDARD_AMONG, tell};
+pub use reason::Reason;

@@ -1,2 +1,3 @@
 mod MoreHeads
+mod MoreQuotes
 mod MoreRows

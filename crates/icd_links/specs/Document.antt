@@ -2,12 +2,10 @@
 use Rattle.std.specs.Prelude.{◌≡◌, ℕ, Bool, true, false, ◌==◌, List, [], ◌∷◌, length, Option, Some, ◌++◌, IsPermutation}
 use Rattle.std.specs.List.{list_all, IsDistinct}
 use Rattle.std.specs.List.Sorted.{IsNonDecreasingBy}
-use Rattle.csv.specs.Reading.{AreRecords, strip_bom}
-use Rattle.csv.specs.declared.parser.State.TheVariants.{StartRecord}
 use Rattle.afdx_frame.specs.declared.key.VlId.{VlId}
 use Rattle.icd_links.specs.Links.{IsSpecified, cell_of}
 use Rattle.icd_links.specs.Heads.{AreColumns}
-use Rattle.icd_links.specs.Rows.{separated_by, separator}
+use Rattle.icd_links.specs.Rows.{AreClosedRows}
 use Rattle.icd_links.specs.declared.columns.Columns.{Columns}
 use Rattle.icd_links.specs.declared.link.IcdLink.{IcdLink}
 
@@ -44,7 +42,7 @@ has_id id link = link.id.0 == id.0
 pub record AreLinks (text : List ℕ) (links : List IcdLink) : Type 0 where
   pub heads : List (List ℕ)
   pub rows : List (List (List ℕ))
-  pub records : AreRecords (separated_by (separator text)) StartRecord (strip_bom text) (heads ∷ rows)
+  pub are_rows : AreClosedRows text (heads ∷ rows)
   pub columns : Columns
   pub are_columns : AreColumns heads columns
   pub given : List IcdLink

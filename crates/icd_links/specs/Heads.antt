@@ -15,7 +15,7 @@ is_name_of key text = str_eq_ignore_ascii_case text (key_name key)
 abbrev pub is_head : Key → List ℕ → Bool
 is_head key head = is_name_of key (trim head)
 
--- a head that is the name stands behind so many that aren't, before others that aren't
+-- a head that is the name stands after so many that aren't, before others that aren't
 pub record IsOnlyHead (key : Key) (heads : List (List ℕ)) (place : ℕ) : Type 0 where
   pub before : List (List ℕ)
   pub head : List ℕ

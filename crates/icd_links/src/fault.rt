@@ -15,8 +15,8 @@ pub enum IcdFault {
     /// The first row has no head `id`, or a known head twice.
     #[error("no column id, or a column twice")]
     Head { line: u64 },
-    /// A row has more or fewer cells than the first.
-    #[error("a row of another length")]
+    /// A row has more or fewer cells than the first, or a quote that isn't closed or that text follows.
+    #[error("a row of another length, or a quote that isn't closed or that text follows")]
     Cells { line: u64 },
     /// A cell has none of its column's values, or the identifier is blank.
     #[error("a value out of its column's range")]

@@ -11,6 +11,7 @@ mod columns;
 mod fault;
 mod link;
 mod links;
+mod quotes;
 mod row;
 mod rows;
 

@@ -1,17 +1,19 @@
 //! The links of a document.
 
-ghost use Rattle.std.specs.Prelude.{◌≡◌, ◌++◌, IfOk, OnOk, List, [], map, IsPermutation};
+ghost use Rattle.std.specs.Prelude.{◌≡◌, ◌++◌, ℕ, Err, IfOk, OnOk, List, [], false, map, IsPermutation};
 ghost use Rattle.std.specs.List.{list_any, IsDistinct};
 ghost use Rattle.std.specs.List.Sorted.{IsNonDecreasingBy};
 ghost use Rattle.csv.specs.Records.{fields_of};
+ghost use Rattle.icd_links.specs.declared.fault.IcdFault.TheVariants.{Cells};
 ghost use Rattle.icd_links.specs.declared.link.IcdLink.{IcdLink};
 ghost use Rattle.icd_links.specs.Document.{AreLinks, Gives, RowGives, has_id, has_same_id};
+ghost use Rattle.icd_links.specs.Rows.{are_quotes_closed};
 
 use crate::columns::Columns;
 use crate::fault::IcdFault;
 use crate::link::IcdLink;
 use crate::row::{RowFault, is_blank, read_link};
-use crate::rows::{fault_of, line_of, read_rows};
+use crate::rows::{closed_rows, line_of};
 use afdx_frame::VlId;
 use csv::StringRecord;
 use std::alloc::Global;
@@ -37,13 +39,16 @@ impl IcdLinks {
     ///
     /// # Errors
     ///
-    /// Of a row of another length than the first, wherever it stands; then of the heads; then row by row of
-    /// the first cell that has none of its column's values, of an identifier and of a name that an earlier
-    /// row has, and of the row after the first [`MAX_LINKS`]. `Memory` if there is none.
+    /// Of a quote that isn't closed or that text follows, wherever it stands; then of a row of another length
+    /// than the first; then of the heads; then row by row of the first cell that has none of its column's
+    /// values, of an identifier and of a name that an earlier row has, and of the row after the first
+    /// [`MAX_LINKS`]. `Memory` if there is none.
     pub fn read(alloc: Global, text: &str) -> Result<IcdLinks, IcdFault>
         ensures links { IfOk result (λ icd. AreLinks text.now icd.links.items) }
+        ensures quotes { are_quotes_closed text.now ≡ false
+            → (line : ℕ) × (result ≡ Err (Cells line)) }
     {
-        let rows = read_rows(alloc, text).map_err(|error| fault_of(text, &error))?;
+        let rows = closed_rows(alloc, text)?;
         let Some((heads, rows)) = rows.split_first() else {
             return Err(IcdFault::Head { line: 1 });
         };

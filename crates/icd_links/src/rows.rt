@@ -1,12 +1,14 @@
 //! The rows of a document.
 
-ghost use Rattle.std.specs.Prelude.{◌≡◌, IfOk, find, map};
-ghost use Rattle.csv.specs.Reading.{AreRecords, strip_bom};
+ghost use Rattle.std.specs.Prelude.{◌≡◌, ℕ, Err, IfOk, false, find, map};
+ghost use Rattle.csv.specs.Reading.{strip_bom};
 ghost use Rattle.csv.specs.Records.{fields_of};
-ghost use Rattle.csv.specs.declared.parser.State.TheVariants as state;
-ghost use Rattle.icd_links.specs.Rows.{separated_by, separator, tells_separator};
+ghost use Rattle.icd_links.specs.Rows.{AreClosedRows, AreRows, are_quotes_closed, separator};
+ghost use Rattle.icd_links.specs.Rows.{tells_separator};
+ghost use Rattle.icd_links.specs.declared.fault.IcdFault.TheVariants.{Cells};
 
 use crate::fault::IcdFault;
+use crate::quotes::stray_quote;
 use csv::{Error, ErrorKind, Position, ReaderBuilder, StringRecord};
 use std::alloc::Global;
 
@@ -32,13 +34,19 @@ fn tells_separator(byte: u8) -> bool
     byte == b',' || byte == b';' || byte == b'\n'
 }
 
+/// A text without the byte order mark at its start.
+fn after_mark(bytes: &[u8]) -> &[u8]
+    ensures { result.now ≡ strip_bom bytes.now }
+{
+    bytes.strip_prefix(&[0xEF, 0xBB, 0xBF]).unwrap_or(bytes)
+}
+
 fn byte_of(place: Option<Position>) -> u64 {
     place.map_or(0, |place| place.byte())
 }
 
-/// The line, from 1, of the row that was read from this byte on.
-fn line_at(text: &str, at: u64) -> u64 {
-    let bytes = text.as_bytes();
+/// The line, from 1, of what begins at this byte, or after line breaks that stand there.
+fn line_at(bytes: &[u8], at: u64) -> u64 {
     let at = bytes.len().min(at as usize);
     let breaks = bytes[at..]
         .iter()
@@ -53,23 +61,22 @@ fn line_at(text: &str, at: u64) -> u64 {
 
 /// The line of a row.
 pub fn line_of(text: &str, row: &StringRecord) -> u64 {
-    line_at(text, byte_of(row.position()))
+    line_at(text.as_bytes(), byte_of(row.position()))
 }
 
 /// Why the rows aren't read.
-pub fn fault_of(text: &str, error: &Error) -> IcdFault {
+fn fault_of(text: &str, error: &Error) -> IcdFault {
     match error.kind() {
         ErrorKind::UnequalLengths { pos, .. } => IcdFault::Cells {
-            line: line_at(text, byte_of(*pos)),
+            line: line_at(text.as_bytes(), byte_of(*pos)),
         },
         _ => IcdFault::Memory,
     }
 }
 
 /// The rows of a text, which have one length.
-pub fn read_rows(alloc: Global, text: &str) -> Result<Vec<StringRecord>, Error>
-    ensures rows { IfOk result (λ rows. AreRecords (separated_by (separator text.now)) state.StartRecord
-        (strip_bom text.now) (map fields_of rows.items)) }
+fn read_rows(alloc: Global, text: &str) -> Result<Vec<StringRecord>, Error>
+    ensures rows { IfOk result (λ rows. AreRows text.now (map fields_of rows.items)) }
 {
     let reader = ReaderBuilder::new()
         .has_headers(false)
@@ -82,4 +89,24 @@ pub fn read_rows(alloc: Global, text: &str) -> Result<Vec<StringRecord>, Error>
         }
     }
     Ok(rows)
+}
+
+/// The rows of a text, which have one length, and whose cells that begin with a quote end with one.
+///
+/// # Errors
+///
+/// `Cells` of the first quote that isn't closed or that text follows, else of a row that has another length;
+/// `Memory` if there is none.
+pub fn closed_rows(alloc: Global, text: &str) -> Result<Vec<StringRecord>, IcdFault>
+    ensures rows { IfOk result (λ rows. AreClosedRows text.now (map fields_of rows.items)) }
+    ensures quotes { are_quotes_closed text.now ≡ false
+        → (line : ℕ) × (result ≡ Err (Cells line)) }
+{
+    let bytes = after_mark(text.as_bytes());
+    if let Some(quote) = stray_quote(bytes, separator_of(text)) {
+        return Err(IcdFault::Cells {
+            line: line_at(bytes, quote as u64),
+        });
+    }
+    read_rows(alloc, text).map_err(|error| fault_of(text, &error))
 }

@@ -33,7 +33,9 @@ mod source;
 mod text;
 mod written;
 
-pub use block::MAX_BLOCK_LEN;
+pub use block::{
+    BlockKind, BlockStart, MAX_BLOCK_LEN, SECTION_HEADER, START_LEN, check_interface_end,
+};
 pub use choice::{Choice, InterfaceName, MAX_NAME_LEN};
 pub use comment::{Comment, MAX_COMMENT_LEN};
 pub use head::append_head;
@@ -42,7 +44,7 @@ pub use interfaces::Interfaces;
 pub use laws::{block_is_read_first, bounds_are_documented, file_is_read, header_fault_is_told};
 pub use packet::append_packet;
 pub use read_back::{written_capture_is_given, written_capture_is_read};
-pub use section::MAX_INTERFACES;
+pub use section::{MAX_INTERFACES, Met};
 pub use source::{RecordingSource, Refused};
 pub use text::packet_header;
 pub use written::{capture_is_stepped_over, packet_reads_back};

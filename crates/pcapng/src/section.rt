@@ -36,7 +36,7 @@ impl Met {
 
     /// Whether the interface of this number of a later section is the same: by the names, or, where one of
     /// the two has none, by the numbers.
-    fn is_same(&self, number: u32, interface: &Interface) -> bool
+    pub fn is_same(&self, number: u32, interface: &Interface) -> bool
         ensures { result ≡ is_same (remembered_of self.now) number
             (bytes_of_name interface.now.name) }
     {

@@ -21,7 +21,8 @@ pub struct Refused<S> {
 /// A recording of either format, handed on as pcap.
 ///
 /// A recording that doesn't begin as pcapng is handed on as it is. Of a pcapng recording the packets
-/// of one Ethernet interface are given. It reads its source ahead, at most 64 KiB at a time.
+/// of one Ethernet interface are given. It reads its source ahead, at most 64 KiB at a time. The source is a
+/// device or a file, which tells nothing: what another one tells isn't handed on.
 #[derive(Drop)]
 pub struct RecordingSource<S> {
     source: S,

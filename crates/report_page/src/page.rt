@@ -2,12 +2,12 @@
 
 use crate::findings::push_findings;
 use crate::gaps::{is_lower_bound, missing_in_silences, silence_of};
-use crate::numbers::{quotient, share};
+use crate::numbers::quotient;
 use crate::rows::{push_strips, push_timeline};
 use crate::tables::{push_comparison, push_links};
 use crate::text;
 use crate::view::{DISCARDS, SIGNS, View, greatest_skew};
-use crate::writer::Part::{self, Both, Duration, Given, Grouped, Number, Tenths, Text, Utc};
+use crate::writer::Part::{self, Both, Duration, Given, Grouped, Number, Percent, Text, Utc};
 use crate::writer::{Named, Page, Pair, flag};
 use afdx_frame::Network::{self, A, B};
 use ledger_report::Anomaly::{Alone, Cut, Late, Lost};
@@ -34,11 +34,21 @@ fn push_recording<'x>(page: &mut Page, word: &'x str, file: Option<&'x Recording
         return;
     };
     let spans = file.first_utc.is_some() && file.last_utc.is_some();
-    fill!(page; text::FILE; word = Text(word), path = Given(&file.path), spans = flag(spans),
+    let files = match &file.files {
+        Some(files) => files.as_slice(),
+        None => &[],
+    };
+    let more = (files.len() as u64).saturating_sub(1);
+    fill!(page; text::FILE; word = Text(word), path = Given(&file.path), one = flag(more == 1),
+        more = Number(if more > 1 { more } else { 0 }), spans = flag(spans),
         first = given_if(&file.first_utc), last = given_if(&file.last_utc),
         bytes = Grouped(file.bytes.unwrap_or(0)), frames = Grouped(file.frames.unwrap_or(0)),
         counted = flag(file.frames.is_some()), end = given_if(&file.end), reason = given_if(&file.reason),
         sha256 = given_if(&file.sha256));
+    for (at, file) in files.iter().enumerate() {
+        fill!(page; text::ONE_FILE; word = Text(word), number = Number(at as u64 + 1),
+            path = Given(&file.path), bytes = Grouped(file.bytes), sha256 = given_if(&file.sha256));
+    }
 }
 
 /// Appends the program that ran, its command line, and its files, if they are known.
@@ -215,7 +225,7 @@ fn parts_of(view: &View<'_>, manifest: Option<&Manifest>) -> [Named<'static>; 30
         links, trouble, notice, silent, clean, frames = Grouped(all.frames),
         pair = Both(Pair(networks.a.frames, networks.b.frames)), delivered = Grouped(all.delivered),
         copies = Grouped(all.copy), discards = Grouped(discards),
-        tenths = Tenths(share(discards, 1000, all.frames.max(1))), bound = flag(bound), lost = Both(lost),
+        share = Percent(discards, all.frames.max(1)), bound = flag(bound), lost = Both(lost),
         missing = flag(lost.sum() > 0 || about.sum() > 0 || least.sum() > 0), about = Both(about),
         least = Both(least), lost_cut = Both(lost.min(cut)), alone = Both(alone),
         alone_cut = Both(alone.min(Pair(cut.1, cut.0))), late = Grouped(view.total(Late).sum()),

@@ -23,7 +23,7 @@ $notice$ notice &#183; $silent$ never seen &#183; $clean$ clean</p></div>\
 <div class=\"tile\"><h3>Delivered</h3><p class=\"big\">$delivered$</p>\
 <p class=\"sub\">$copies$ copies taken off</p></div>\
 <div class=\"tile$?discards$ hot$/$\"><h3>Discarded</h3><p class=\"big\">$discards$\
-<small> = $tenths$ %</small></p><p class=\"sub\">@reasons@</p></div>\
+<small> = $share$ %</small></p><p class=\"sub\">@reasons@</p></div>\
 <div class=\"tile$?missing$ hot$/$\"><h3>Lost numbers</h3><p class=\"big\">\
 $?bound$<small>at least </small>$/$$lost$</p><p class=\"sub\">missing in the links' count, outside silences\
 $?about$ &#183; in them about $about$$/$$?least$ &#183; in them at least $least$$/$\
@@ -82,9 +82,14 @@ pub const RUN: &str = "<p class=\"of\">$name$ $version$ (commit $commit$): <code
 
 /// A file of the run. The facts after its size are those of a recording.
 pub const FILE: &str = "\
-<br/>$word$ <b>$path$</b>: $bytes$ bytes$?counted$, $frames$ frames$/$\
+<br/>$word$ <b>$path$</b>$?one$ and 1 more file$/$$?more$ and $more$ more files$/$: \
+$bytes$ bytes$?counted$, $frames$ frames$/$\
 $?spans$ from $first$ to $last$$/$$?end$, ends $end$$/$$?reason$ ($reason$)$/$\
 $?sha256$, SHA-256 <code>$sha256$</code>$/$";
+
+/// A file of a recording in several, where its digest is known.
+pub const ONE_FILE: &str = "\
+$?sha256$<br/>$word$, file $number$ <b>$path$</b>: $bytes$ bytes, SHA-256 <code>$sha256$</code>$/$";
 
 /// What the page says where it has no manifest, and where it has one.
 pub const NOT_TIED: &str = "Table and ledger were not tied: no manifest of the run was given. ";
@@ -196,11 +201,11 @@ body{padding:0;max-width:none;font-size:10.5px;print-color-adjust:exact;
 .find{column-gap:16px;font-size:9.5px;columns:2}.lgs{columns:2}
 .tiles{grid-template-columns:repeat(4,1fr)}.row{grid-template-columns:92px 1fr 88px;gap:6px}.lb,
 .vl{font-size:9.5px}.lb small,.vl small,.rl{font-size:8px}.rl{display:inline}.tl .row{padding:0}
-.tl .vl small{display:inline;margin-left:5px}.none,.facts,.tl h4{margin-left:98px}h2{font-size:13px;
+.tl .vl small{display:inline;margin:0 5px}.none,.facts,.tl h4{margin-left:98px}h2{font-size:13px;
 margin:10px 0 4px}h2 small{font-size:9px}.tl{break-inside:avoid}table{font-size:8.5px}
 th{font-size:8.5px}th small{font-size:7.5px}td,th{padding:1px 3px}.spk{width:90px;min-width:70px}
 .ms{display:none}td.p .a,td.p .b{min-width:0!important}td i{padding:0 1px}.ub{display:none}
 tr{break-inside:avoid}thead{display:table-header-group}.scroll{overflow:visible}dl{font-size:8.5px;
 grid-template-columns:72px 1fr;gap:1px 8px}.lg{margin-bottom:7px}dd i{font-size:8px}
 .pp{font-size:9px}.det h3{font-size:11.5px}.det{padding:6px 8px 4px 2px}footer{font-size:9px}
-h2{break-after:avoid}}"#;
+h2{break-inside:avoid;break-after:avoid}}"#;

@@ -1,6 +1,6 @@
 //! What a page is written with.
 
-use crate::numbers::{SECOND, quotient, rounded};
+use crate::numbers::{SECOND, quotient, rounded, share};
 use afdx_frame::Network;
 use jiff::Timestamp;
 use std::alloc::{AllocError, Global};
@@ -34,6 +34,8 @@ pub enum Part<'a> {
     Grouped(u64),
     /// So many tenths, with one decimal.
     Tenths(u64),
+    /// So many of so many in per cent, rounded down to one decimal, or to the first digit that isn't 0.
+    Percent(u64, u64),
     /// So many hundredths, with two decimals.
     Hundredths(u64),
     /// So many thousandths, with three decimals.
@@ -155,6 +157,7 @@ impl Page {
             Part::Number(value) => self.number(value, 1),
             Part::Grouped(value) => self.grouped(value),
             Part::Tenths(value) => self.decimal(value, 10, 1),
+            Part::Percent(count, of) => self.percent(count, of),
             Part::Hundredths(value) => self.decimal(value, 100, 2),
             Part::Thousandths(value) => self.decimal(value, 1000, 3),
             Part::Millionths(value) => self.decimal(value / 10_000, 100, 2),
@@ -205,6 +208,19 @@ impl Page {
         self.number(whole, 1);
         self.text(".");
         self.number(value.saturating_sub(whole.saturating_mul(of)), digits);
+    }
+
+    fn percent(&mut self, count: u64, of: u64) {
+        let (mut parts, mut unit, mut digits) = (share(count, 1000, of), 10u64, 1);
+        for more in 2..=9 {
+            if count == 0 || parts > 0 {
+                break;
+            }
+            unit = unit.saturating_mul(10);
+            parts = share(count, unit.saturating_mul(100), of);
+            digits = more;
+        }
+        self.decimal(parts, unit, digits);
     }
 
     fn grouped(&mut self, value: u64) {

@@ -19,7 +19,7 @@ use Rattle.traffic_survey.specs.declared.recorded.Recorded.{Recorded}
 use Rattle.vl_config.specs.Class.{link_with}
 use Rattle.vl_config.specs.Document.{IsTableOfText, VlTable}
 use Rattle.vl_config.specs.Link.{VirtualLink}
-use Rattle.table_draft.specs.Rules.{IsBag, IsJitter, greatest_length, is_numbered, is_redundant, skews_among, smax_of}
+use Rattle.table_draft.specs.Rules.{IsBag, IsJitter, is_numbered, is_redundant, longest, size_of, skews_among, smax_of}
 use Rattle.table_draft.specs.declared.estimate.Estimate.{Estimate}
 use Rattle.table_draft.specs.declared.recordings.Recordings.{Recordings}
 
@@ -44,10 +44,12 @@ abbrev pub IsSeenOf : List Sighting → Option LinkSurvey → Type 0
 IsSeenOf frames None = frames ≡ []
 IsSeenOf frames (Some link) = CountsLink link frames
 
--- the greatest length of its frames on both networks, and by how much copies came later at most, in microseconds
-abbrev pub longest : List Sighting → ℕ
-longest frames = max (greatest_length (received_on A frames)) (greatest_length (received_on B frames))
+-- the size of its longest frame; none of a link that isn't kept
+abbrev pub size_seen : Option LinkSurvey → List Sighting → Option ℕ
+size_seen None frames = None
+size_seen (Some link) frames = Some (size_of (longest frames))
 
+-- by how much copies came later at most, in microseconds
 abbrev pub skew_micros : List Sighting → ℕ
 skew_micros frames = min (div_ceil (greatest_of (skews_among frames)) 1000) 1000000
 

@@ -51,13 +51,21 @@ pub record IsJitter (bag : ℕ) (a b : List Received) (micros : ℕ) : Type 0 wh
 abbrev pub greatest_length : List Received → ℕ
 greatest_length frames = greatest_of (map (λ frame. frame.len) frames)
 
+-- that of both networks' frames
+abbrev pub longest : List Sighting → ℕ
+longest frames = max (greatest_length (received_on A frames)) (greatest_length (received_on B frames))
+
 -- an even number of bytes that is no less
 abbrev pub even_up : ℕ → ℕ
 even_up bytes = bytes + bytes % 2
 
--- the greatest size with the frame check sequence of 4 bytes, in bytes: even, at least 64 and at most 1518
+-- the size of a frame of this length: with the frame check sequence of 4 bytes, at most 1518
+abbrev pub size_of : ℕ → ℕ
+size_of length = min length 1514 + 4
+
+-- the Smax of a draft whose longest frame has this length: no less than its size, even and at least 64
 abbrev pub smax_of : ℕ → ℕ
-smax_of length = max (even_up (min length 1514 + 4)) 64
+smax_of length = max (even_up (size_of length)) 64
 
 -- ---- integrity checking
 

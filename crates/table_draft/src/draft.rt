@@ -14,7 +14,9 @@ use crate::known::Known;
 use crate::left_out::LeftOut;
 use crate::recordings::Recordings;
 use crate::refusals::have_fault;
-use crate::text::{HEADER, ICD_HEADER, write_constants, write_ending, write_keys, write_seen};
+use crate::text::{
+    HEADER, ICD_HEADER, write_constants, write_ending, write_keys, write_seen, write_unusable,
+};
 use afdx_frame::VlId;
 use icd_links::IcdLinks;
 use std::alloc::{AllocError, Global};
@@ -109,13 +111,7 @@ fn write_head(text: &mut String, sources: &Sources<'_>) -> Result<(), AllocError
     }
     write_ending(text, "A", sources.recordings.a)?;
     write_ending(text, "B", sources.recordings.b)?;
-    let unusable = sources.survey.unusable();
-    if unusable > 0 {
-        write!(
-            text,
-            "# {unusable} frames weren't recorded whole, or aren't of 60 to 1514 bytes.\n"
-        )?;
-    }
+    write_unusable(text, sources.survey.unusable())?;
     write_left_out(text, LeftOut(sources))
 }
 

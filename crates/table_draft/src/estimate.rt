@@ -7,7 +7,7 @@ ghost use Rattle.traffic_survey.specs.Jitter.{IsGreatest};
 ghost use Rattle.traffic_survey.specs.OneNetwork.{CountsArrivals, Received, gaps_of};
 ghost use Rattle.traffic_survey.specs.declared.needs.TheConstants.{BAGS};
 ghost use Rattle.traffic_survey.specs.LinkFrames.{CountsLink, Sighting, received_on};
-ghost use Rattle.table_draft.specs.Rules.{IsBagOf, count_wrong, is_numbered, is_redundant, smax_of};
+ghost use Rattle.table_draft.specs.Rules.{IsBagOf, count_wrong, is_numbered, is_redundant, longest, size_of, smax_of};
 
 use traffic_survey::{Arrivals, BAGS, LinkSurvey};
 
@@ -98,14 +98,28 @@ pub fn needed_by(arrivals: &Arrivals, bag: usize) -> u64
     arrivals.needs().at(bag).greatest()
 }
 
-/// The size with the frame check sequence, at least 64 and even.
+/// The size of a frame of this length, with the frame check sequence.
+fn size_of(length: u32) -> u32
+    ensures { result ≡ size_of length }
+{
+    length.min(MAX_SMAX - CHECK_LENGTH) + CHECK_LENGTH
+}
+
+/// The Smax of a draft: the size of its longest frame, rounded up to an even number of at least 64.
 fn smax_of(greatest_len: u32) -> u32
     ensures least { 64 ≤ result }
     ensures greatest { result ≤ 1518 }
     ensures value { result ≡ smax_of greatest_len }
 {
-    let size = greatest_len.min(MAX_SMAX - CHECK_LENGTH) + CHECK_LENGTH;
+    let size = size_of(greatest_len);
     (size + size % 2).max(64)
+}
+
+/// The size of a link's longest frame on both networks.
+pub fn greatest_size(link: &LinkSurvey) -> u32
+    ensures { (frames : List Sighting) → CountsLink link.now frames → result ≡ size_of (longest frames) }
+{
+    size_of(link.a.greatest_len().max(link.b.greatest_len()))
 }
 
 /// Do at least half of the sequence numbers follow the one before?

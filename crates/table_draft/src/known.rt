@@ -6,9 +6,9 @@ ghost use Rattle.afdx_frame.specs.declared.key.Network.TheVariants.{A, B};
 ghost use Rattle.traffic_survey.specs.declared.needs.TheConstants.{BAGS as bags};
 ghost use Rattle.traffic_survey.specs.LinkFrames.{CountsLink, Sighting, received_on};
 ghost use Rattle.table_draft.specs.Rules.{IsJitter};
-ghost use Rattle.table_draft.specs.Drafts.{HasValues, IsEstimateAt, IsSeenOf, given, skew_micros, skew_where};
+ghost use Rattle.table_draft.specs.Drafts.{HasValues, IsEstimateAt, IsSeenOf, given, size_seen, skew_micros, skew_where};
 
-use crate::estimate::{Estimate, MAX_JITTER_US, MAX_SKEW_US, needed_by, not_next};
+use crate::estimate::{Estimate, MAX_JITTER_US, MAX_SKEW_US, greatest_size, needed_by, not_next};
 use afdx_frame::VlId;
 use icd_links::IcdLink;
 use traffic_survey::{Arrivals, BAGS, LinkSurvey};
@@ -185,7 +185,10 @@ impl Known<'_> {
 
     /// What the frames say of a link that the draft has so. Where one network alone is recorded they don't
     /// say whether the other brings the link too.
-    pub fn seen_beside(&self, drafted: Estimate, both: bool) -> Seen {
+    pub fn seen_beside(&self, drafted: Estimate, both: bool) -> Seen
+        ensures { (frames : List Sighting) → IsSeenOf frames (option_copied self.now.seen)
+            → result.smax ≡ size_seen (option_copied self.now.seen) frames }
+    {
         let Some(link) = self.seen else {
             return Seen {
                 bag_ms: None,
@@ -203,7 +206,8 @@ impl Known<'_> {
         Seen {
             bag_ms: given_if(has_gaps, bag_ms(estimate.bag)),
             jitter_us: given_if(has_gaps, jitter_us(link, drafted.bag)),
-            smax: Some(u64::from(estimate.smax)),
+            // A draft's Smax is rounded up, and isn't what was seen.
+            smax: Some(u64::from(greatest_size(link))),
             integrity: given_if(has_steps, estimate.integrity),
             redundancy: given_if(both, estimate.redundancy),
             skew_us: given_if(has_copies, skew_us(link)),

@@ -24,20 +24,21 @@ pub const ICD_HEADER: &str = "\
 recordings where it leaves a value out.
 ";
 
-/// A length of time in nanoseconds, in three digits that aren't below it.
+/// A length of time in nanoseconds, rounded half up to a microsecond, from 1 ms on to three digits, and from
+/// 1 s on to a millisecond.
 #[derive(Clone, Copy)]
 struct About(u64);
 
 impl Display for About {
     fn fmt<W: fmt::Write>(&self, f: &mut Formatter<W>) -> fmt::Result {
-        let micros = self.0.div_ceil(1000);
-        let step = match micros {
-            0..=999 => 1,
-            1000..=9999 => 10,
-            10_000..=99_999 => 100,
-            _ => 1000,
+        // Half of the last digit.
+        let half = match self.0 {
+            0..=999_999 => 500,
+            1_000_000..=9_999_999 => 5_000,
+            10_000_000..=99_999_999 => 50_000,
+            _ => 500_000,
         };
-        let micros = micros.div_ceil(step).saturating_mul(step);
+        let micros = (self.0 / half).div_ceil(2).saturating_mul(half / 500);
         let (millis, rest) = (micros / 1000, micros % 1000);
         if millis == 0 {
             write!(f, "{micros} us")
@@ -49,6 +50,20 @@ impl Display for About {
         } else {
             let hundredths = rest / 10;
             write!(f, "{millis}.{hundredths:02} ms")
+        }
+    }
+}
+
+/// A number of frames.
+#[derive(Clone, Copy)]
+struct Frames(u64);
+
+impl Display for Frames {
+    fn fmt<W: fmt::Write>(&self, f: &mut Formatter<W>) -> fmt::Result {
+        let count = self.0;
+        match count {
+            1 => f.write_str("1 frame"),
+            _ => write!(f, "{count} frames"),
         }
     }
 }
@@ -75,17 +90,22 @@ pub fn write_ending(
 ) -> Result<(), AllocError> {
     match recorded.map(|recorded| recorded.ending) {
         None => Ok(()),
-        Some(Ending::Clean(frames)) => { write!(text, "# Network {network}: {frames} frames.\n") }
+        Some(Ending::Clean(frames)) => {
+            let frames = Frames(frames);
+            write!(text, "# Network {network}: {frames}.\n")
+        }
         Some(Ending::Cut(frames)) => {
+            let frames = Frames(frames);
             write!(
                 text,
-                "# Network {network}: {frames} frames, then the recording is truncated.\n"
+                "# Network {network}: {frames}, then the recording is truncated.\n"
             )
         }
         Some(Ending::Bad(frames, _)) => {
+            let frames = Frames(frames);
             write!(
                 text,
-                "# Network {network}: {frames} frames, then a packet that can't be read.\n"
+                "# Network {network}: {frames}, then a packet that can't be read.\n"
             )
         }
     }
@@ -95,34 +115,41 @@ pub fn write_ending(
 pub fn write_constants(text: &mut String, survey: &Survey, main: &Field) -> Result<(), AllocError> {
     for field in survey.fields() {
         if field.constant != main.constant {
-            let Field {
-                constant,
-                frames,
-                ..
-            } = field;
-            write!(
-                text,
-                "# Another constant field: {constant}, in {frames} frames.\n"
-            )?;
+            let (constant, frames) = (field.constant, Frames(field.frames));
+            write!(text, "# Another constant field: {constant}, in {frames}.\n")?;
         }
     }
-    let others = survey.others();
-    if others > 0 {
-        write!(text, "# {others} frames have further constant fields.\n")?;
+    match survey.others() {
+        0 => {}
+        1 => text.push_str("# 1 frame has a further constant field.\n")?,
+        others => write!(text, "# {others} frames have further constant fields.\n")?,
     }
-    let refused = main.links.refused();
-    if refused > 0 {
-        write!(
-            text,
-            "# {refused} frames are of links beyond the first 4096.\n"
-        )?;
+    match main.links.refused() {
+        0 => {}
+        1 => text.push_str("# 1 frame is of a link beyond the first 4096.\n")?,
+        refused => {
+            write!(
+                text,
+                "# {refused} frames are of links beyond the first 4096.\n"
+            )?
+        }
     }
-    let Field {
-        constant,
-        frames,
-        ..
-    } = main;
-    write!(text, "\nconstant = {constant}  # {frames} frames\n")
+    let (constant, frames) = (main.constant, Frames(main.frames));
+    write!(text, "\nconstant = {constant}  # {frames}\n")
+}
+
+/// How many frames no draft is made of.
+pub fn write_unusable(text: &mut String, unusable: u64) -> Result<(), AllocError> {
+    match unusable {
+        0 => Ok(()),
+        1 => text.push_str("# 1 frame wasn't recorded whole, or isn't of 60 to 1514 bytes.\n"),
+        _ => {
+            write!(
+                text,
+                "# {unusable} frames weren't recorded whole, or aren't of 60 to 1514 bytes.\n"
+            )
+        }
+    }
 }
 
 /// In comments what was seen of a link, which the draft has with this BAG.
@@ -133,8 +160,8 @@ pub fn write_seen(text: &mut String, link: &LinkSurvey, bag: usize) -> Result<()
     write_arrivals(text, "B", &link.b)?;
     write_need(text, "A", &link.a, bag)?;
     write_need(text, "B", &link.b, bag)?;
-    let copies = link.copies.count();
-    write!(text, "# {copies} frames came on both networks.\n")
+    let copies = Frames(link.copies.count());
+    write!(text, "# {copies} came on both networks.\n")
 }
 
 /// The keys of a link.
@@ -168,10 +195,11 @@ pub fn write_keys(
 
 /// What was seen of a link on a network.
 fn write_arrivals(text: &mut String, network: &str, arrivals: &Arrivals) -> Result<(), AllocError> {
-    let frames = arrivals.frames();
-    if frames == 0 {
-        return write!(text, "# {network}: no frame.\n");
-    }
+    let frames = match arrivals.frames() {
+        0 => return write!(text, "# {network}: no frame.\n"),
+        1 => return write!(text, "# {network}: 1 frame.\n"),
+        frames => frames,
+    };
     let follow = arrivals.numbering().next();
     let others = not_next(arrivals);
     write!(
@@ -211,12 +239,13 @@ fn write_need(
         text.push_str(", more than a table allows")?;
     }
     match need.all_but(arrivals.frames() / 1000) {
-        Some(below) => {
+        // Where nearly all frames need as much as the one, that says nothing.
+        Some(below) if below < needed => {
             write!(
                 text,
                 "; all but 0.1 per cent of the frames need less than {below} us.\n"
             )
         }
-        None => text.push_str(".\n"),
+        _ => text.push_str(".\n"),
     }
 }

@@ -8,10 +8,12 @@ use pcap_io::{Found, TapReader};
 use std::fmt;
 use std::fmt::{Display, Formatter};
 
-/// Which option takes a frame that is out of order.
+/// What takes a frame that is out of order.
 #[derive(Clone, Copy)]
 enum Taken {
     By(u64),
+    /// The key `late_us` of the table, as `check` has no option for it.
+    ByTable(u64),
     InAnyOrder,
     ByNone,
 }
@@ -58,13 +60,14 @@ fn lateness_after(rt: &HostRuntime, tap: &Tap, count: u64) -> Option<u64> {
     Some(late)
 }
 
-/// The option of a command that takes a frame so late.
+/// What takes a frame so late in a command.
 fn taken_by(command: Invocation<'_>, late: u64) -> Taken {
     let micros = late.div_ceil(1000);
     match command {
         Invocation::Capture(_) | Invocation::Debug(_) | Invocation::Watch(_)
             if micros <= MAX_LATE_MICROS => { Taken::By(micros) }
         Invocation::Capture(_) | Invocation::Debug(_) => Taken::InAnyOrder,
+        Invocation::Check(_) if micros <= MAX_LATE_MICROS => Taken::ByTable(micros),
         _ => Taken::ByNone,
     }
 }
@@ -96,6 +99,9 @@ impl Display for Disorder {
         let amount = Amount(self.late);
         match self.taken {
             Taken::By(micros) => write!(f, " by {amount} (--late-us {micros} takes it)"),
+            Taken::ByTable(micros) => {
+                write!(f, " by {amount} (late_us = {micros} of the table takes it)")
+            }
             Taken::InAnyOrder => write!(f, " by {amount} (--late-us any takes it)"),
             Taken::ByNone => write!(f, " by {amount}"),
         }

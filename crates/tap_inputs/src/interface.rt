@@ -1,9 +1,10 @@
 //! Which interface of a pcapng recording is read: a number or a name after its path and a colon. And what is
 //! told of the others.
+use crate::described::{Described, described_in};
 use afdx_frame::Network;
 use command_line::{Exit, SkippedNote, is_standard};
-use pcap_io::{BadReason, Ending, Found, ReadSource, TapReader};
-use pcapng::{Choice, Interface, InterfaceName, RecordingSource};
+use pcap_io::{BadReason, ByteOrder, Ending, Found, ReadSource, TapReader, read_u32};
+use pcapng::{Choice, InterfaceName, RecordingSource, SECTION_HEADER};
 use std::fmt::Write;
 use std::fs::File;
 use std::io::{Read, Take};
@@ -90,17 +91,30 @@ fn note(rt: &HostRuntime, network: Option<Network>, packets: u64) -> io::Result<
 /// are begun.
 const LOOKED_AT: u64 = 1 << 20;
 
-/// The type of a section header, which each pcapng file begins with.
-const SECTION: [u8; 4] = [0x0a, 0x0d, 0x0d, 0x0a];
-
-/// Does a regular file begin as pcapng does?
+/// Does a file begin as pcapng does?
 fn is_pcapng(rt: &HostRuntime, path: &str) -> io::Result<bool> {
     let mut first = [0; 4];
-    if !fs::metadata(rt, path)?.is_file() {
-        return Ok(false);
-    }
     File::open(rt, path)?.read_exact(&mut first)?;
-    Ok(first == SECTION)
+    Ok(read_u32(ByteOrder::Big, &first) == SECTION_HEADER)
+}
+
+/// Does a file begin as a pcap file that is read?
+fn is_pcap(rt: &HostRuntime, path: &str) -> bool {
+    match File::open(rt, path) {
+        Ok(file) => TapReader::open(ReadSource::new(file), Network::A, 1, u64::MAX).is_ok(),
+        Err(_) => false,
+    }
+}
+
+/// The interfaces of a pcap file, if the chosen one isn't one of them: it has one, without a name.
+fn other_in_pcap(rt: &HostRuntime, path: &str, choice: Choice) -> Option<String> {
+    match choice {
+        Choice::Any | Choice::Number(0) => None,
+        Choice::Number(_) | Choice::Name(_) if is_pcap(rt, path) => {
+            String::from_str(rt.alloc(), "0").ok()
+        }
+        Choice::Number(_) | Choice::Name(_) => None,
+    }
 }
 
 /// The recording that so many bytes at the start of a file are, whose timestamps may stand in any order.
@@ -115,14 +129,14 @@ pub fn start_of(
     TapReader::open(source, Network::A, 1 << 32, u64::MAX).ok()
 }
 
-/// The interfaces at a file's start, if that ends at a packet of a second Ethernet interface.
+/// The interfaces at a file's start, if a packet of a second Ethernet interface stands there.
 fn several_in(rt: &HostRuntime, path: &str) -> Option<String> {
     let mut reader = start_of(rt, path, Choice::Any, LOOKED_AT)?;
     for _ in 0..LOOKED_AT {
         match reader.advance(rt.alloc()) {
             Ok(Found::Frame) => {}
             Ok(Found::End(Ending::Bad(_, BadReason::SeveralInterfaces))) => {
-                return list_of(rt, reader.into_source().interfaces());
+                return list_of(rt, &described_in(rt, path, LOOKED_AT)?);
             }
             Ok(Found::End(_)) | Err(_) => return None,
         }
@@ -143,45 +157,49 @@ fn others_in(rt: &HostRuntime, path: &str, choice: Choice) -> Option<String> {
     let mut reader = start_of(rt, path, choice, u64::MAX)?;
     match reader.advance(rt.alloc()) {
         Ok(Found::End(Ending::Bad(_, BadReason::NoSuchInterface))) => {
-            list_of(rt, reader.into_source().interfaces())
+            list_of(rt, &described_in(rt, path, u64::MAX)?)
         }
         Ok(Found::Frame | Found::End(_)) | Err(_) => None,
     }
 }
 
-/// An interface's name, if it can be shown.
-fn shown_name(interface: &Interface) -> Option<&str> {
-    let name = str::from_utf8(interface.name.as_ref()?.as_bytes()).ok()?;
-    if name.bytes().all(|byte| byte.is_ascii_graphic()) {
-        Some(name)
-    } else {
-        None
+/// An interface's name, if it can be shown, and chosen by it: digits are a number.
+fn shown_name(name: &InterfaceName) -> Option<&str> {
+    let name = str::from_utf8(name.as_bytes()).ok()?;
+    if !name.bytes().all(|byte| byte.is_ascii_graphic()) {
+        return None;
+    }
+    match choice_of(name)? {
+        Choice::Name(_) => Some(name),
+        Choice::Any | Choice::Number(_) => None,
     }
 }
 
-/// The Ethernet interfaces: the number of each, and its name.
-fn list_of(rt: &HostRuntime, interfaces: &[Interface]) -> Option<String> {
+/// A list of interfaces: the number of each, and its name. One that has a name has no number there where that
+/// would choose another interface too.
+fn list_of(rt: &HostRuntime, interfaces: &[Described]) -> Option<String> {
+    if interfaces.is_empty() {
+        return String::from_str(rt.alloc(), "none of Ethernet").ok();
+    }
     let mut list = String::new(rt.alloc());
-    for interface in interfaces {
-        if !interface.ethernet {
-            continue;
-        }
-        let number = interface.number;
+    for Described { met, is_mixed } in interfaces {
         let separator = if list.is_empty() { "" } else { ", " };
-        write!(list, "{separator}{number}").ok()?;
-        if let Some(name) = shown_name(interface) {
-            write!(list, " {name}").ok()?;
+        let number = met.number;
+        match met.name.as_ref().and_then(shown_name) {
+            Some(name) if *is_mixed => write!(list, "{separator}{name}").ok()?,
+            Some(name) => write!(list, "{separator}{number} {name}").ok()?,
+            None => write!(list, "{separator}{number}").ok()?,
         }
     }
     Some(list)
 }
 
-/// The Ethernet interfaces of a pcapng file, the number of each and its name, if it begins with packets of
-/// several and none is chosen, or if it doesn't describe the one that is. More than its start is read only
-/// where that has no frame of it.
+/// The Ethernet interfaces of a regular file of pcapng, the number of each and its name, if it begins with
+/// packets of several and none is chosen, or if it doesn't describe the one that is. More than its start is
+/// read only where that has no frame of it. A pcap file has the interface 0.
 pub fn refused_interfaces(rt: &HostRuntime, path: &str, choice: Choice) -> Option<String> {
     if !is_pcapng(rt, path).unwrap_or(false) {
-        return None;
+        return other_in_pcap(rt, path, choice);
     }
     match choice {
         Choice::Any => several_in(rt, path),

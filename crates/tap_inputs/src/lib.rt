@@ -10,6 +10,7 @@
 #![tactic(auto)]
 
 mod blocks;
+mod described;
 mod disorder;
 mod interface;
 mod opening;
@@ -22,7 +23,7 @@ mod streams;
 mod taps;
 
 pub use blocks::{BLOCK, Blocks, LiveInput, SharedBlocks};
-pub use disorder::Disorder;
+pub use disorder::{Amount, Disorder};
 pub use interface::{Skipped, status_of};
 pub use opening::{open, open_tap};
 pub use pauses::Pauses;
@@ -31,4 +32,4 @@ pub use recordings::{FileList, Reading, TapEnd, TapFiles, end_of, files_of, open
 pub use refused::{NO_RUN, Refused};
 pub use seams::tell_gaps;
 pub use streams::{Input, Noting, OutputFile, OutputStream};
-pub use taps::{Tap, TapFile, Taps, option_of};
+pub use taps::{Tap, TapFile, Taps, option_of, read_list};

@@ -8,7 +8,8 @@ use std::io;
 pub const NO_RUN: Fault = Fault::Watch(WatchFault::Memory);
 
 /// Why a command was not begun. Of a filter's source the text shows a person where its fault lies; of a file
-/// of several interfaces it lists them. Of an output that can't be written the system says why.
+/// of several interfaces it lists them, and of a standard stream it says what is wrong. Of an output that
+/// can't be written the system says why.
 #[derive(Drop)]
 pub struct Refused {
     pub fault: Fault,

@@ -5,15 +5,16 @@ use crate::streams::Input;
 use afdx_frame::Network;
 use command_line::{
     BETWEEN_FILES, CaptureArguments, CheckArguments, CutArguments, DebugArguments, Fault,
-    FileOption, Inode, Invocation, LinksArguments, WatchArguments,
+    FileOption, Inode, Invocation, LinksArguments, WatchArguments, is_standard,
 };
 use pcap_io::{Found, ReadSource, TapReader, TapSource};
 use pcapng::Choice;
 use std::alloc::AllocError;
 use std::fmt::Write;
-use std::fs;
-use std::fs::File;
+use std::fs::{File, Metadata};
+use std::io::Read;
 use std::os::unix::fs::MetadataExt;
+use std::{fs, io};
 
 /// A file of a recording, and the interface that is read of it.
 #[derive(Drop)]
@@ -26,6 +27,8 @@ pub struct TapFile {
 #[derive(Drop)]
 pub struct Tap {
     pub files: Vec<TapFile>,
+    /// The paths of the lists that name files of it.
+    pub lists: Vec<String>,
 }
 
 /// The recordings of a command: that of network A, or its one recording, and that of network B.
@@ -33,6 +36,23 @@ pub struct Tap {
 pub struct Taps {
     a: Tap,
     b: Tap,
+}
+
+/// The most bytes of a list of a recording's files, as of any other text.
+const MAX_LIST: usize = 16_777_216;
+
+/// The list of a recording's files at a path.
+///
+/// # Errors
+///
+/// It can't be read, has more than 16777216 bytes (`FileTooLarge`), or isn't UTF-8.
+pub fn read_list(rt: &HostRuntime, path: &str) -> io::Result<String> {
+    let start = File::open(rt, path)?.take(MAX_LIST as u64 + 1);
+    let list = io::read_to_string(rt.alloc(), start)?;
+    if list.len() > MAX_LIST {
+        return Err(io::Error::from(io::ErrorKind::FileTooLarge));
+    }
+    Ok(list)
 }
 
 /// The recordings that a command names, as its words have them.
@@ -64,17 +84,15 @@ impl Tap {
     fn of(rt: &HostRuntime, words: Option<&str>) -> Result<Tap, AllocError> {
         let mut tap = Tap {
             files: Vec::new(rt.alloc()),
+            lists: Vec::new(rt.alloc()),
         };
         let Some(words) = words else {
             return Ok(tap);
         };
         for word in words.split(BETWEEN_FILES) {
-            match word
-                .strip_prefix('@')
-                .map(|list| fs::read_to_string(rt, list))
-            {
-                Some(Ok(list)) if !list.trim().is_empty() => tap.add_listed(rt, &list)?,
-                Some(_) | None => tap.add(rt, word)?,
+            match word.strip_prefix('@') {
+                Some(path) => tap.add_list(rt, word, path)?,
+                None => tap.add(rt, word)?,
             }
         }
         Ok(tap)
@@ -85,6 +103,18 @@ impl Tap {
         let path = String::from_str(rt.alloc(), path)?;
         self.files.push(TapFile { path, choice })?;
         Ok(())
+    }
+
+    /// Adds the list at a path, which a word names, and its files.
+    fn add_list(&mut self, rt: &HostRuntime, word: &str, path: &str) -> Result<(), AllocError> {
+        match read_list(rt, path) {
+            Ok(list) if !list.trim().is_empty() => {
+                let path = String::from_str(rt.alloc(), path)?;
+                self.lists.push(path)?;
+                self.add_listed(rt, &list)
+            }
+            Ok(_) | Err(_) => self.add(rt, word),
+        }
     }
 
     /// Adds the files of a list: a path a line. Lines without one are passed over.
@@ -103,9 +133,7 @@ impl Tap {
 
     /// Are all its files regular ones, which may be read again?
     pub fn is_of_regular_files(&self, rt: &HostRuntime) -> bool {
-        self.files.iter().all(|file| fs::metadata(rt, &file.path).is_ok_and(
-            |found| found.is_file(),
-        ))
+        self.files.iter().all(|file| file.is_regular(rt))
     }
 
     /// Has it more than one file?
@@ -215,9 +243,22 @@ pub struct Looked {
 }
 
 impl TapFile {
+    /// What the system says of the file, which standard input isn't one of.
+    fn metadata(&self, rt: &HostRuntime) -> Option<Metadata> {
+        if is_standard(&self.path) {
+            return None;
+        }
+        fs::metadata(rt, &self.path).ok()
+    }
+
+    /// Is it a regular file, which may be read again?
+    fn is_regular(&self, rt: &HostRuntime) -> bool {
+        self.metadata(rt).is_some_and(|found| found.is_file())
+    }
+
     /// Looks at the file, if it is a regular one: a pipe's bytes are read once.
     pub fn look(&self, rt: &HostRuntime, option: FileOption) -> Result<Option<Looked>, Refused> {
-        let Ok(found) = fs::metadata(rt, &self.path) else {
+        let Some(found) = self.metadata(rt) else {
             return Err(Refused::from(Fault::File(option)));
         };
         if !found.is_file() {
@@ -226,9 +267,10 @@ impl TapFile {
         let Ok(file) = File::open(rt, &self.path) else {
             return Err(Refused::from(Fault::File(option)));
         };
+        self.refuse_absent(rt, option)?;
         let first = match TapReader::open(ReadSource::new(file), Network::A, 1, u64::MAX) {
             Ok(reader) => first_of(rt, reader),
-            Err(_) => self.first_of_pcapng(rt, option)?,
+            Err(_) => self.first_of_pcapng(rt),
         };
         Ok(Some(Looked {
             inode: Inode {
@@ -240,9 +282,9 @@ impl TapFile {
         }))
     }
 
-    /// Refuses a file that begins with packets of several interfaces, if none is chosen, and one that doesn't
-    /// describe the one that is.
-    fn refuse_several(&self, rt: &HostRuntime, option: FileOption) -> Result<(), Refused> {
+    /// Refuses a regular file that begins with packets of several interfaces, if none is chosen, and one that
+    /// doesn't have the one that is.
+    fn refuse_absent(&self, rt: &HostRuntime, option: FileOption) -> Result<(), Refused> {
         match refused_interfaces(rt, &self.path, self.choice) {
             Some(listed) => Err(Refused {
                 source: Some(listed),
@@ -252,18 +294,9 @@ impl TapFile {
         }
     }
 
-    /// The timestamp of the first frame of a pcapng file, which has packets of one interface, or describes
-    /// the chosen one.
-    fn first_of_pcapng(
-        &self,
-        rt: &HostRuntime,
-        option: FileOption,
-    ) -> Result<Option<u64>, Refused> {
-        self.refuse_several(rt, option)?;
-        match start_of(rt, &self.path, self.choice, u64::MAX) {
-            Some(reader) => Ok(first_of(rt, reader)),
-            None => Ok(None),
-        }
+    /// The timestamp of the first frame of a pcapng file, of the chosen interface or the only one.
+    fn first_of_pcapng(&self, rt: &HostRuntime) -> Option<u64> {
+        first_of(rt, start_of(rt, &self.path, self.choice, u64::MAX)?)
     }
 }
 
@@ -310,7 +343,9 @@ impl Tap {
         match self.files.as_slice() {
             [] => Ok(None),
             [file] => {
-                file.refuse_several(rt, option)?;
+                if file.is_regular(rt) {
+                    file.refuse_absent(rt, option)?;
+                }
                 Ok(first.length(rt))
             }
             _ => self.look_at_several(rt, option, late),

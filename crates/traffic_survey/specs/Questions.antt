@@ -1,5 +1,5 @@
 -- What looks wrong with the inputs of a run, in the order in which it is to be mended, by counts alone (this project's profile).
-use Rattle.std.specs.Prelude.{◌≡◌, ℕ, ◌+◌, ◌-◌, ◌*◌, ◌/◌, ◌<◌, ◌≤◌, ◌==◌, Bool, true, false, not, ◌&&◌, ◌||◌, List, [], ◌∷◌, ◌++◌, length, min, max, nat_lt, get_or, Option, Some, None, is_some, if◌then◌else◌}
+use Rattle.std.specs.Prelude.{◌≡◌, ℕ, ◌+◌, ◌-◌, ◌*◌, ◌/◌, ◌<◌, ◌≤◌, ◌==◌, Bool, true, false, not, ◌&&◌, ◌||◌, List, [], ◌∷◌, ◌++◌, length, min, nat_lt, get_or, Option, Some, None, is_some, if◌then◌else◌}
 use Rattle.std.specs.List.{All, cons_option, sum_by}
 use Rattle.std.specs.Option.{option_map_or}
 use Rattle.afdx_frame.specs.declared.key.Network.{Network}
@@ -57,6 +57,10 @@ pub record Appends (old new : List Question) (Asks : List Question → Type 0) :
 
 abbrev pub asked_if : Bool → Question → List Question
 asked_if holds asked = if holds then asked ∷ [] else []
+
+-- which recordings have no frame
+abbrev pub of_empty : Look → List Question
+of_empty look = asked_if look.empty_a (question.Empty A) ++ asked_if look.empty_b (question.Empty B)
 
 -- whose recordings these are
 abbrev pub of_networks : TapTally → TapTally → Option Overlap → List Question
@@ -118,25 +122,6 @@ of_classes a b =
 abbrev pub sum_redundant : (LinkTally → ℕ) → List (VirtualLink × LinkTally) → ℕ
 sum_redundant count pairs = sum_by (λ pair. if pair.0.redundancy then count pair.1 else 0) pairs
 
--- their greatest SkewMax
-abbrev pub greatest_skew : List (VirtualLink × LinkTally) → ℕ
-greatest_skew [] = 0
-greatest_skew (pair ∷ pairs) = if pair.0.redundancy then max pair.0.skew (greatest_skew pairs) else greatest_skew pairs
-
--- their frames that both networks have, one of each link
-abbrev pub meetings_of : List (VirtualLink × LinkTally) → List Meeting
-meetings_of [] = []
-meetings_of (pair ∷ pairs) = if pair.0.redundancy then cons_option (meeting_of pair.1) (meetings_of pairs) else meetings_of pairs
-
--- the counts of the links with redundancy management on
-abbrev pub pairs_of : List (VirtualLink × LinkTally) → Pairs
-pairs_of pairs = record {
-  a = sum_up (sum_redundant (counted_on A) pairs);
-  b = sum_up (sum_redundant (counted_on B) pairs);
-  copies = sum_up (sum_redundant (λ tally. tally.copies.count) pairs);
-  skew = greatest_skew pairs;
-}
-
 -- by how much the clocks are apart at a meeting, and whose is ahead
 abbrev pub ahead_at : Meeting → Network
 ahead_at meeting = if nat_lt meeting.a meeting.b then B else A
@@ -144,17 +129,41 @@ ahead_at meeting = if nat_lt meeting.a meeting.b then B else A
 abbrev pub apart_at : Meeting → ℕ
 apart_at meeting = (meeting.b - meeting.a) + (meeting.a - meeting.b)
 
--- the difference of the clocks at a meeting, where at least half of the links tell it, too, and it is more than a skew
+-- one where the first frames of both networks have a number of the link in common
+abbrev pub meetings_in : LinkTally → ℕ
+meetings_in tally = if is_some (meeting_of tally) then 1 else 0
+
+-- a meeting that is further apart than a skew
+abbrev pub beyond : ℕ → Option Meeting → Option Meeting
+beyond skew None = None
+beyond skew (Some meeting) = if nat_lt skew (apart_at meeting) then Some meeting else None
+
+-- their frames that both networks have further apart than the link's SkewMax, one of each link
+abbrev pub meetings_of : List (VirtualLink × LinkTally) → List Meeting
+meetings_of [] = []
+meetings_of (pair ∷ pairs) =
+    if pair.0.redundancy then cons_option (beyond pair.0.skew (meeting_of pair.1)) (meetings_of pairs) else meetings_of pairs
+
+-- the counts of the links with redundancy management on
+abbrev pub pairs_of : List (VirtualLink × LinkTally) → Pairs
+pairs_of pairs = record {
+  a = sum_up (sum_redundant (counted_on A) pairs);
+  b = sum_up (sum_redundant (counted_on B) pairs);
+  copies = sum_up (sum_redundant (λ tally. tally.copies.count) pairs);
+  met = sum_up (sum_redundant meetings_in pairs);
+}
+
+-- the difference of the clocks at a meeting, where at least half of so many links tell it, too
 abbrev pub difference_at : List Meeting → ℕ → Meeting → Option Difference
-difference_at meetings skew meeting =
-    if is_agreed (support meetings meeting) (length meetings) && nat_lt skew (apart_at meeting)
-    then Some (record { ahead = ahead_at meeting; nanos = apart_at meeting; links = support meetings meeting; of = length meetings })
+difference_at meetings met meeting =
+    if is_agreed (support meetings meeting) met
+    then Some (record { ahead = ahead_at meeting; nanos = apart_at meeting; links = support meetings meeting; of = met })
     else None
 
 -- the difference of the clocks that most links tell
-pub record IsDifference (meetings : List Meeting) (skew : ℕ) (difference : Option Difference) : Type 0 where
+pub record IsDifference (meetings : List Meeting) (met : ℕ) (difference : Option Difference) : Type 0 where
   pub none : meetings ≡ [] → difference ≡ None
-  pub some : 0 < length meetings → (place : ℕ) × (place < length meetings) × IsMostSupported meetings place × ((none : Meeting) → difference ≡ difference_at meetings skew (get_or meetings place none))
+  pub some : 0 < length meetings → (place : ℕ) × (place < length meetings) × IsMostSupported meetings place × ((none : Meeting) → difference ≡ difference_at meetings met (get_or meetings place none))
 
 abbrev pub have_few_copies : Pairs → Bool
 have_few_copies pairs = are_copies_few pairs.copies pairs.a pairs.b
@@ -171,15 +180,19 @@ pub record AsksFrames (a b : TapTally) (constants : List Constant) (questions : 
   pub most_is : IsMostCommon constants most
   pub are : questions ≡ of_frames a b most
 
--- What is asked of the clocks. A difference is looked for only where copies are few.
+-- What is asked of the clocks. A difference is looked for only where copies are few, among the frames that are further apart than their own link's SkewMax.
 pub record AsksClocks (pairs : List (VirtualLink × LinkTally)) (overlap : Option Overlap) (questions : List Question) : Type 0 where
   pub difference : Option Difference
-  pub difference_is : have_few_copies (pairs_of pairs) ≡ true → IsDifference (meetings_of pairs) (greatest_skew pairs) difference
+  pub difference_is : have_few_copies (pairs_of pairs) ≡ true → IsDifference (meetings_of pairs) (pairs_of pairs).met difference
   pub are : questions ≡ of_clocks (pairs_of pairs) difference overlap
 
 -- the clocks are no question where frames end with check sequences, or both recordings are the same
 abbrev pub is_settled : TapTally → TapTally → Bool
 is_settled a b = (has_checks a || has_checks b) || are_same a b
+
+-- what is asked of the recordings
+abbrev pub of_recordings : Inputs → Look → List Question
+of_recordings inputs look = of_empty look ++ of_networks inputs.a inputs.b (overlap_in look)
 
 -- what looks wrong
 pub record AreQuestions (inputs : Inputs) (look : Look) (questions : List Question) : Type 0 where
@@ -188,4 +201,4 @@ pub record AreQuestions (inputs : Inputs) (look : Look) (questions : List Questi
   pub frames_are : AsksFrames inputs.a inputs.b (constants_of inputs) frames
   pub settled : is_settled inputs.a inputs.b ≡ true → clocks ≡ []
   pub open_is : is_settled inputs.a inputs.b ≡ false → AsksClocks (pairs_in inputs) (overlap_in look) clocks
-  pub are : questions ≡ of_networks inputs.a inputs.b (overlap_in look) ++ (frames ++ (of_classes inputs.a inputs.b ++ clocks))
+  pub are : questions ≡ of_recordings inputs look ++ (frames ++ (of_classes inputs.a inputs.b ++ clocks))

@@ -5,7 +5,8 @@ ghost use Rattle.std.specs.Prelude.{◌≡◌, ◌&&◌, ◌||◌, ◌++◌, not
 ghost use Rattle.traffic_survey.specs.Decide.{is_nearly_all};
 ghost use Rattle.traffic_survey.specs.Parts.{constants_of, pairs_in};
 ghost use Rattle.traffic_survey.specs.Taps.{are_same};
-ghost use Rattle.traffic_survey.specs.Questions.{Appends, AreQuestions, AsksClocks, AsksFrames, IsDifference, IsMostCommon, are_many_cut, asked_if, cut_on, has_checks, is_over_half, meetings_of, of_classes, of_networks, option_list, overlap_in, pairs_of};
+ghost use Rattle.traffic_survey.specs.Tallies.{meeting_of};
+ghost use Rattle.traffic_survey.specs.Questions.{Appends, AreQuestions, AsksClocks, AsksFrames, IsDifference, IsMostCommon, are_many_cut, asked_if, beyond, cut_on, has_checks, is_over_half, meetings_in, meetings_of, of_classes, of_empty, of_networks, option_list, overlap_in, pairs_of};
 
 use crate::clocks::{Meeting, most_supported, support};
 use crate::decide::{
@@ -13,9 +14,11 @@ use crate::decide::{
 };
 use crate::drift::Drift;
 use crate::inputs::{Constant, Inputs};
+use crate::link::LinkTally;
 use crate::tap_tally::TapTally;
 use afdx_frame::Network;
 use std::alloc::{AllocError, Global};
+use vl_config::Link;
 
 /// How far the clock of one tap is ahead of the other's.
 #[derive(Clone, Copy)]
@@ -24,7 +27,7 @@ pub struct Difference {
     pub ahead: Network,
     /// By how many nanoseconds.
     pub nanos: u64,
-    /// How many links say so, to some milliseconds, of those that say anything.
+    /// How many links say so, to some milliseconds, of those that meet.
     pub links: usize,
     pub of: usize,
 }
@@ -32,6 +35,8 @@ pub struct Difference {
 /// What looks wrong.
 #[derive(Clone, Copy)]
 pub enum Question {
+    /// The recording of a network has no frame.
+    Empty(Network),
     /// Both networks' recordings have the same frames.
     SameRecording,
     /// The source addresses name other networks.
@@ -70,7 +75,7 @@ pub enum Question {
     },
     /// The clocks move apart.
     Drift(Drift),
-    /// Hardly a frame is the copy of another; the sequence numbers may say how far the clocks are apart.
+    /// Under half of the frames have a copy; the sequence numbers may say how far the clocks are apart.
     Clocks(Option<Difference>),
 }
 
@@ -79,6 +84,10 @@ pub enum Question {
 pub struct Look {
     pub a: Option<Reach>,
     pub b: Option<Reach>,
+    /// Does the recording of A end without a frame, and without a packet that can't be read?
+    pub empty_a: bool,
+    /// The same of B.
+    pub empty_b: bool,
 }
 
 impl Look {
@@ -90,13 +99,14 @@ impl Look {
     }
 }
 
-/// The counts of the links with redundancy management on: frames of A and B, copies, the greatest SkewMax.
+/// The counts of the links with redundancy management on: frames of A and B, copies, and the links of which
+/// both taps' first frames have a number in common.
 #[derive(Clone, Copy)]
 struct Pairs {
     a: u64,
     b: u64,
     copies: u64,
-    skew: u64,
+    met: usize,
 }
 
 fn pairs_of(inputs: &Inputs<'_>) -> Pairs
@@ -106,27 +116,47 @@ fn pairs_of(inputs: &Inputs<'_>) -> Pairs
         a: 0,
         b: 0,
         copies: 0,
-        skew: 0,
+        met: 0,
     };
     for (link, tally) in inputs.links().iter().zip(inputs.tallies()) {
         if link.redundancy {
             pairs.a = pairs.a.saturating_add(tally.frames(Network::A));
             pairs.b = pairs.b.saturating_add(tally.frames(Network::B));
             pairs.copies = pairs.copies.saturating_add(tally.copies());
-            pairs.skew = pairs.skew.max(link.skew);
+            pairs.met = pairs.met.saturating_add(meetings_in(tally));
         }
     }
     pairs
 }
 
-/// The frames that both taps have seen, one of each link with redundancy management on.
+/// One where both taps' first frames have a number of a link in common.
+fn meetings_in(tally: &LinkTally) -> usize
+    ensures { result ≡ meetings_in tally.now }
+{
+    usize::from(tally.meeting().is_some())
+}
+
+/// The frame of a link that both taps have seen, if they have it further apart than its SkewMax.
+fn meeting_beyond(link: &Link, tally: &LinkTally) -> Option<Meeting>
+    ensures { result ≡ beyond link.now.skew (meeting_of tally.now) }
+{
+    let meeting = tally.meeting()?;
+    if link.skew < meeting.b.abs_diff(meeting.a) {
+        Some(meeting)
+    } else {
+        None
+    }
+}
+
+/// The frames that both taps have seen further apart than their link's SkewMax, one of each link with
+/// redundancy management on.
 fn meetings_of(alloc: Global, inputs: &Inputs<'_>) -> Result<Vec<Meeting>, AllocError>
     ensures { IfOk result (λ meetings. meetings.items ≡ meetings_of (pairs_in inputs.now)) }
 {
     let mut meetings = Vec::new(alloc);
     for (link, tally) in inputs.links().iter().zip(inputs.tallies()) {
         if link.redundancy {
-            if let Some(meeting) = tally.meeting() {
+            if let Some(meeting) = meeting_beyond(link, tally) {
                 meetings.push(meeting)?;
             }
         }
@@ -134,9 +164,9 @@ fn meetings_of(alloc: Global, inputs: &Inputs<'_>) -> Result<Vec<Meeting>, Alloc
     Ok(meetings)
 }
 
-/// How far the clocks are apart, if links agree on more than a skew.
-fn difference_of(meetings: &[Meeting], skew: u64) -> Option<Difference>
-    ensures { IsDifference meetings.now skew result }
+/// How far the clocks are apart, if half of the links that meet tell it beyond their own SkewMax.
+fn difference_of(meetings: &[Meeting], met: usize) -> Option<Difference>
+    ensures { IsDifference meetings.now met result }
 {
     if meetings.is_empty() {
         return None;
@@ -148,12 +178,12 @@ fn difference_of(meetings: &[Meeting], skew: u64) -> Option<Difference>
     } else {
         (Network::A, meeting.a - meeting.b)
     };
-    if is_agreed(links, meetings.len()) && skew < nanos {
+    if is_agreed(links, met) {
         Some(Difference {
             ahead,
             nanos,
             links,
-            of: meetings.len(),
+            of: met,
         })
     } else {
         None
@@ -173,7 +203,7 @@ fn clocks(
         return Ok(None);
     }
     let meetings = meetings_of(alloc, inputs)?;
-    let difference = difference_of(&meetings, pairs.skew);
+    let difference = difference_of(&meetings, pairs.met);
     let none = pairs.copies == 0 && overlap == Some(Overlap::Together);
     if difference.is_some() || none {
         Ok(Some(Question::Clocks(difference)))
@@ -205,6 +235,14 @@ fn most_common(constants: &[Constant]) -> Option<Constant>
         }
     }
     most
+}
+
+/// Which recordings have no frame.
+fn ask_of_empty(questions: &mut Vec<Question>, look: Look) -> Result<(), AllocError>
+    ensures { OnOk result (questions.new.items ≡ questions.old.items ++ of_empty look) }
+{
+    ask_if(questions, look.empty_a, Question::Empty(Network::A))?;
+    ask_if(questions, look.empty_b, Question::Empty(Network::B))
 }
 
 /// Whose recordings these are.
@@ -349,6 +387,7 @@ pub fn questions_of(
     let mut questions = Vec::new(alloc);
     let (a, b) = (inputs.tap(Network::A), inputs.tap(Network::B));
     let overlap = look.overlap();
+    ask_of_empty(&mut questions, look)?;
     ask_of_networks(&mut questions, a, b, overlap)?;
     let has_checks = ask_of_frames(&mut questions, inputs)?;
     ask_of_classes(&mut questions, a, b)?;

@@ -2,6 +2,7 @@
 
 use command_line::Fault;
 use table_check::TableFault;
+use tap_inputs::Disorder;
 use traffic_survey::{Format, Inputs, Look, Question, Recorded};
 use vl_config::Config;
 
@@ -20,6 +21,8 @@ pub struct TapAnswer<'a> {
     pub name: &'a str,
     pub format: Option<Format>,
     pub recorded: Recorded,
+    /// By how much the frame is out of order that ends it, if one does.
+    pub disorder: Option<Disorder>,
     /// How many packets aren't of Ethernet.
     pub skipped: u64,
 }

@@ -109,14 +109,18 @@ fn push_tap(out: &mut String, network: &str, tap: &TapAnswer<'_>) -> Result<(), 
 
 /// The fault of a recording that ends bad.
 fn push_bad(out: &mut String, network: &str, tap: &TapAnswer<'_>) -> Result<(), AllocError> {
-    if let Ending::Bad(count, reason) = tap.recorded.ending {
-        let (frames, reason) = (Counted(count, "frame"), reason_words(reason));
-        writeln!(
-            out,
-            "fault: of network {network} no frame is read after {frames}: {reason}"
-        )?;
+    let Ending::Bad(count, reason) = tap.recorded.ending else {
+        return Ok(());
+    };
+    let (frames, reason) = (Counted(count, "frame"), reason_words(reason));
+    write!(
+        out,
+        "fault: of network {network} no frame is read after {frames}: {reason}"
+    )?;
+    if let Some(disorder) = tap.disorder {
+        write!(out, "{disorder}")?;
     }
-    Ok(())
+    out.push_str("\n")
 }
 
 fn push_taps(out: &mut String, alloc: Global, answer: &Answer<'_>) -> Result<(), AllocError> {

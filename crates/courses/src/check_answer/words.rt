@@ -74,6 +74,8 @@ impl Display for Counted {
 /// The word of a question, for scripts.
 pub fn question_word(question: &Question) -> &'static str {
     match question {
+        Question::Empty(Network::A) => "empty_a",
+        Question::Empty(Network::B) => "empty_b",
         Question::SameRecording => "same_recording",
         Question::Wiring(Wiring::Swapped) => "swapped",
         Question::Wiring(Wiring::BothOfA) => "both_of_a",
@@ -104,6 +106,8 @@ pub fn question_word(question: &Question) -> &'static str {
         Question::Clocks(_) => "clocks",
     }
 }
+
+const NO_FRAME: &str = "Its recording has no frame: look at its tap, or leave the recording out";
 
 const SAME_RECORDING: &str = "are --a and --b one recording? All their frames are the same";
 
@@ -143,7 +147,7 @@ do the clocks of the taps drift? Synchronise them (PTP), or judge short parts: \
 editcap -F nsecpcap -i 60 in.pcap out.pcap makes files of a minute";
 
 const CLOCKS: &str = "\
-are the clocks of the taps apart? Hardly a frame is a copy within its SkewMax.";
+are the clocks of the taps apart? Under half of the frames have a copy within SkewMax.";
 
 /// A question in words.
 #[derive(Clone, Copy)]
@@ -237,6 +241,10 @@ impl Display for RecorderPart<'_> {
 impl Display for Asked<'_> {
     fn fmt<W: fmt::Write>(&self, f: &mut Formatter<W>) -> fmt::Result {
         match *self.0 {
+            Question::Empty(network) => {
+                let network = network.letter();
+                write!(f, "was network {network} recorded? {NO_FRAME}")
+            }
             Question::SameRecording => f.write_str(SAME_RECORDING),
             Question::Wiring(Wiring::Swapped) => f.write_str(SWAPPED),
             Question::Wiring(Wiring::BothOfA) => f.write_str(BOTH_OF_A),

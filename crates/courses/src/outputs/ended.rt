@@ -12,6 +12,8 @@ pub struct Ended {
     pub worst: Option<String>,
     pub skipped: Skipped,
     pub reason: Option<io::Error>,
+    /// What a person is told of standard input that is no text.
+    pub told: Option<String>,
     /// Why a recording wasn't read that the answer of `check` is about.
     pub unread: Option<Fault>,
     /// The numbers of the files that were read last of the recordings.
@@ -25,6 +27,7 @@ impl From<Exit> for Ended {
             worst: None,
             skipped: Skipped::none(),
             reason: None,
+            told: None,
             unread: None,
             at: [0, 0],
         }

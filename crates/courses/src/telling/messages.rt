@@ -1,6 +1,7 @@
 //! What standard error is told of a command's end: the fault line or the notes, and at a terminal which file
 //! it is about, why, and what to do. What a file is found to be by then is only told, and decides nothing.
-use crate::telling::disputed::Disputed;
+use crate::telling::disputed::{Disputed, KnownTable};
+use crate::telling::reason::{reason_of, reason_of_input, unreadable_in};
 use afdx_frame::Network;
 use analyser::MAX_TEXT;
 use bpf_asm::AsmFault;
@@ -21,32 +22,8 @@ use std::fs::File;
 use std::io::Read;
 use std::{fmt, fs, io};
 use table_check::{key_offset, slip_of};
-use tap_inputs::{Disorder, OutputStream, Tap, Taps};
+use tap_inputs::{Disorder, Tap, Taps};
 use vl_config::{Config, ConfigFault};
-
-/// Why a file can't be read or written.
-#[derive(Clone, Copy)]
-enum Reason {
-    /// What the system says.
-    System(io::Error),
-    /// A text that has so many bytes.
-    TooLong(u64),
-    /// A text that isn't UTF-8 from this byte on.
-    NotUtf8(usize),
-    /// A list of a recording's files that has no path.
-    NoPath,
-}
-
-impl Display for Reason {
-    fn fmt<W: fmt::Write>(&self, f: &mut Formatter<W>) -> fmt::Result {
-        match self {
-            Reason::System(error) => write!(f, "{error}"),
-            Reason::TooLong(len) => write!(f, "it has {len} bytes"),
-            Reason::NotUtf8(at) => write!(f, "not UTF-8 at byte {at}"),
-            Reason::NoPath => f.write_str("the list has no path"),
-        }
-    }
-}
 
 /// Where a ledger ends whose run was stopped, or goes on.
 #[derive(Clone, Copy)]
@@ -75,7 +52,8 @@ impl Display for StopNote<'_> {
 /// What the program knows of a command's end, beside how it ended.
 #[derive(Clone, Copy)]
 pub struct Known<'a> {
-    /// The text in which a fault lies, or a list of a file's interfaces.
+    /// The text in which a fault lies, a list of a file's interfaces, or what is wrong with a standard
+    /// stream.
     pub source: Option<&'a str>,
     /// Why the system took an output no longer.
     pub reason: Option<io::Error>,
@@ -92,6 +70,22 @@ pub struct Known<'a> {
 fn path_of<'a>(command: Invocation<'a>, file: FileOption) -> Option<&'a str> {
     let path = command.file_of(file)?.path?;
     if is_standard(path) { None } else { Some(path) }
+}
+
+/// The recording that an option names, if it names one.
+fn tap_of<'a>(taps: &'a Taps, file: FileOption) -> Option<&'a Tap> {
+    match file {
+        FileOption::A | FileOption::Recording | FileOption::Tap => Some(taps.of_network(
+            Network::A,
+        )),
+        FileOption::B => Some(taps.of_network(Network::B)),
+        _ => None,
+    }
+}
+
+/// Is the file standard input, in a list of several?
+fn is_standard_among(command: Invocation<'_>, file: FileOption, taps: &Taps) -> bool {
+    tap_of(taps, file).is_some_and(|tap| tap.is_of_several()) && path_of(command, file).is_none()
 }
 
 /// What a ledger or a manifest that is read needs. None: it is none, or is written.
@@ -135,80 +129,6 @@ fn source_of<'a>(command: Invocation<'a>) -> Option<&'a str> {
         file.path
     } else {
         None
-    }
-}
-
-/// Why a text that opens can't be had.
-fn reason_of_text(rt: &HostRuntime, path: &str, len: u64) -> Option<Reason> {
-    if len > MAX_TEXT as u64 {
-        return Some(Reason::TooLong(len));
-    }
-    match fs::read(rt, path) {
-        Err(error) => Some(Reason::System(error)),
-        Ok(bytes) => match str::from_utf8(&bytes) {
-            Err(error) => Some(Reason::NotUtf8(error.valid_up_to())),
-            Ok(_) => None,
-        },
-    }
-}
-
-/// Why a recording can't be opened or read.
-fn reason_of_recording(rt: &HostRuntime, path: &str) -> Option<Reason> {
-    let mut byte = [0];
-    let read = match File::open(rt, path) {
-        Ok(mut file) => file.read(&mut byte),
-        Err(error) => Err(error),
-    };
-    match read {
-        Ok(_) => None,
-        Err(error) => Some(Reason::System(error)),
-    }
-}
-
-/// Why a list of a recording's files can't be had. None: the path isn't that of a list.
-fn reason_of_list(rt: &HostRuntime, path: &str) -> Option<Reason> {
-    match fs::read_to_string(rt, path.strip_prefix('@')?) {
-        Ok(_) => Some(Reason::NoPath),
-        Err(error) => Some(Reason::System(error)),
-    }
-}
-
-/// Why a file that is read can't be had. A pipe or a device isn't opened a second time: that might wait,
-/// and might take what another reader waits for.
-fn reason_of_input(rt: &HostRuntime, path: &str, file: FileOption) -> Option<Reason> {
-    let found = match fs::metadata(rt, path) {
-        Ok(found) => found,
-        Err(error) => {
-            return reason_of_list(rt, path).or(Some(Reason::System(error)));
-        }
-    };
-    if !found.is_file() && !found.is_dir() {
-        return None;
-    }
-    match file {
-        FileOption::Config
-        | FileOption::Filter
-        | FileOption::Source
-        | FileOption::Icd
-        | FileOption::Manifest => reason_of_text(rt, path, found.len()),
-        _ => reason_of_recording(rt, path),
-    }
-}
-
-/// Why a file that is written can't be opened.
-fn reason_of_output(rt: &HostRuntime, path: &str) -> Option<Reason> {
-    match OutputStream::open(rt, path) {
-        Ok(_) => None,
-        Err(error) => Some(Reason::System(error)),
-    }
-}
-
-fn reason_of(rt: &HostRuntime, path: &str, file: FileOption) -> Option<Reason> {
-    match file {
-        FileOption::Capture | FileOption::Ledger | FileOption::Output | FileOption::Manifest => {
-            reason_of_output(rt, path)
-        }
-        _ => reason_of_input(rt, path, file),
     }
 }
 
@@ -275,6 +195,10 @@ const BASELINE_ADVICE: &str =
 const MANIFEST_ADVICE: &str =
     "--manifest needs a manifest that can be read: a file of watch, at most 16 MiB of UTF-8";
 
+/// What a person is told who names standard input beside other files of a recording.
+pub const STANDARD_AMONG: &str =
+    "'-' can't be one of several files of a recording: name standard input /dev/stdin there";
+
 /// Tells why a file can't be opened, read or written, and what it needs.
 fn explain_file(
     rt: &HostRuntime,
@@ -298,6 +222,24 @@ fn explain_file(
             rt.eprintln(Advice(fault))
         }
         (name, ..) => advise(rt, name, Advice(fault)),
+    }
+}
+
+/// Tells which file of a recording can't be read, and why. A run that reads on threads doesn't say which it
+/// is.
+fn explain_read(
+    rt: &HostRuntime,
+    command: Invocation<'_>,
+    file: FileOption,
+    fault: &Fault,
+    taps: &Taps,
+) -> io::Result<()> {
+    match tap_of(taps, file).and_then(|tap| unreadable_in(rt, tap)) {
+        Some((path, reason)) => {
+            eprintln!(rt; "{path}: {reason}")?;
+            rt.eprintln(Advice(fault))
+        }
+        None => explain_file(rt, command, file, fault),
     }
 }
 
@@ -355,20 +297,35 @@ fn explain_manifest(
     }
 }
 
-/// Tells which link's line contradicts the table, where ledger and table can be read again.
-fn explain_link(
+/// Which link's line of a ledger contradicts the table, where both can be read again.
+fn disputed_in<'c, 't>(
+    rt: &HostRuntime,
+    ledger: &str,
+    table: KnownTable<'c, 't>,
+    (line, found): (u64, Contradiction),
+) -> Option<Disputed<'c, 't>> {
+    match found {
+        Contradiction::Link => table.of_link(rt, ledger, line),
+        Contradiction::Copy => table.of_copy(rt, ledger, line),
+        Contradiction::Counts => table.of_counts(rt, ledger, line),
+    }
+}
+
+/// Tells which link's line contradicts the table, where that is seen.
+fn explain_contradiction(
     rt: &HostRuntime,
     command: Invocation<'_>,
-    line: u64,
+    file: FileOption,
+    (line, found): (u64, Contradiction),
     fault: &Fault,
 ) -> io::Result<()> {
-    let (ledger, table) = (FileOption::Ledger, FileOption::Config);
-    let (Some(ledger), Some(table)) = (path_of(command, ledger), path_of(command, table)) else {
-        return advise(rt, name_of(command, ledger), Advice(fault));
+    let (ledger, table) = (path_of(command, file), path_of(command, FileOption::Config));
+    let (Some(ledger), Some(path)) = (ledger, table) else {
+        return advise(rt, name_of(command, file), Advice(fault));
     };
-    let config = text_again(rt, table).and_then(|text| Config::read(rt.alloc(), &text).ok());
+    let config = text_again(rt, path).and_then(|text| Config::read(rt.alloc(), &text).ok());
     let disputed = match &config {
-        Some(config) => Disputed::of(rt, ledger, line, table, config),
+        Some(config) => disputed_in(rt, ledger, KnownTable { path, config }, (line, found)),
         None => None,
     };
     match disputed {
@@ -500,6 +457,77 @@ fn explain_header(
     }
 }
 
+/// Tells what is wrong with a file that an option names.
+fn explain_named(
+    rt: &HostRuntime,
+    command: Invocation<'_>,
+    file: FileOption,
+    fault: &Fault,
+    known: Known<'_>,
+) -> io::Result<()> {
+    if is_standard_among(command, file, known.taps) {
+        return rt.eprintln(STANDARD_AMONG);
+    }
+    match known.source {
+        Some(told) => rt.eprintln(told),
+        None => explain_file(rt, command, file, fault),
+    }
+}
+
+/// Tells what is wrong with a recording or an output of a run.
+fn explain_watch(
+    rt: &HostRuntime,
+    command: Invocation<'_>,
+    file: FileOption,
+    fault: WatchFault,
+    known: Known<'_>,
+) -> io::Result<()> {
+    let told = Fault::Watch(fault);
+    match (fault, known.source) {
+        (_, Some(closed)) => rt.eprintln(closed),
+        (WatchFault::Read { .. }, None) => explain_read(rt, command, file, &told, known.taps),
+        (WatchFault::Header { fault, .. }, None) => explain_header(rt, command, file, fault),
+        _ => advise(rt, name_of(command, file), Advice(&told)),
+    }
+}
+
+/// Tells what is wrong with a file of a cut.
+fn explain_cut(
+    rt: &HostRuntime,
+    command: Invocation<'_>,
+    file: FileOption,
+    fault: CutFault,
+    known: Known<'_>,
+) -> io::Result<()> {
+    let told = Fault::Cut(fault);
+    match fault {
+        CutFault::Read { .. } => explain_read(rt, command, file, &told, known.taps),
+        CutFault::Header { fault, .. } => explain_header(rt, command, file, fault),
+        _ => advise(rt, name_of(command, file), Advice(&told)),
+    }
+}
+
+/// Tells what is wrong with a file that a report is made of. `told` is the fault line.
+fn explain_report(
+    rt: &HostRuntime,
+    command: Invocation<'_>,
+    file: FileOption,
+    fault: ReportFault,
+    told: &Fault,
+) -> io::Result<()> {
+    let name = name_of(command, file);
+    match fault {
+        ReportFault::Read => explain_file(rt, command, file, told),
+        ReportFault::Contradiction { line, found } => {
+            explain_contradiction(rt, command, file, (line, found), told)
+        }
+        ReportFault::Manifest(ManifestFault::Form { .. }) => {
+            explain_manifest(rt, command, name, told)
+        }
+        _ => advise(rt, name, Advice(told)),
+    }
+}
+
 /// Tells a person what a fault line means: the file and the place in it, why it can't be had or taken, and
 /// what to do.
 fn explain(
@@ -516,25 +544,11 @@ fn explain(
         return eprintln!(rt; "{name}: {error}");
     }
     match (*fault, file) {
-        (
-            Fault::File(_)
-            | Fault::Watch(WatchFault::Read { .. })
-            | Fault::Cut(CutFault::Read { .. })
-            | Fault::Report(ReportFault::Read)
-            | Fault::Baseline(ReportFault::Read),
-            Some(file),
-        ) => explain_file(rt, command, file, fault),
-        (Fault::Watch(WatchFault::Header { fault, .. }), Some(file)) => {
-            explain_header(rt, command, file, fault)
-        }
-        (Fault::Cut(CutFault::Header { fault, .. }), Some(file)) => {
-            explain_header(rt, command, file, fault)
-        }
-        (Fault::Report(ReportFault::Manifest(ManifestFault::Form { .. })), _) => {
-            explain_manifest(rt, command, name, fault)
-        }
-        (Fault::Report(ReportFault::Contradiction { line, found }), _)
-            if found == Contradiction::Link => explain_link(rt, command, line, fault),
+        (Fault::File(_), Some(file)) => explain_named(rt, command, file, fault, known),
+        (Fault::Watch(fault), Some(file)) => explain_watch(rt, command, file, fault, known),
+        (Fault::Cut(fault), Some(file)) => explain_cut(rt, command, file, fault, known),
+        (Fault::Report(found), Some(file)) => explain_report(rt, command, file, found, fault),
+        (Fault::Baseline(found), Some(file)) => explain_report(rt, command, file, found, fault),
         (Fault::Config(fault), _) => explain_table(rt, command, fault),
         (Fault::Icd(fault), _) => explain_icd(rt, name, fault),
         (Fault::Asm(fault), _) => explain_source(rt, command, fault, known.source),

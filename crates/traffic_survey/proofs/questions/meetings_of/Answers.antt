@@ -37,7 +37,7 @@ loop-link-preserved-in_default c =
     ∙ next_pair links tallies (length c.loop-link.yielded) c.in-Some.link.now c.in-Some.tally.now turn.0 turn.1 turn.2 turn.3 in
     let before = take (length c.loop-link.yielded) (pairs_in c.args.inputs.now) in
     let on = sym (ap (λ (l : VirtualLink). l.redundancy) c.link.view_is) ∙ c.if-link.true in
-    c.loop-link.invariant ∙ meetings_none before (c.in-Some.link.now, c.in-Some.tally.now) on (sym c.meeting.ensures ∙ c.in_default.is) ∙ sym (ap meetings_of next)
+    c.loop-link.invariant ∙ meetings_none before (c.in-Some.link.now, c.in-Some.tally.now) on (sym c.meeting_beyond.ensures ∙ c.in_default.is) ∙ sym (ap meetings_of next)
 
 pub loop-link-preserved-in-Continue-1 : goal.loop-link-preserved-in-Continue-1
 loop-link-preserved-in-Continue-1 c =
@@ -52,8 +52,8 @@ loop-link-preserved-in-Continue-1 c =
     ∙ next_pair links tallies (length c.loop-link.yielded) c.in-Some.link.now c.in-Some.tally.now turn.0 turn.1 turn.2 turn.3 in
     let before = take (length c.loop-link.yielded) (pairs_in c.args.inputs.now) in
     let on = sym (ap (λ (l : VirtualLink). l.redundancy) c.link.view_is) ∙ c.if-link.true in
-    c.in_ok-push.ensures.items ∙ ap (λ (l : List Meeting). l ++ c.in-Some-meeting.meeting ∷ []) c.loop-link.invariant
-    ∙ meetings_push before (c.in-Some.link.now, c.in-Some.tally.now) c.in-Some-meeting.meeting on (sym c.meeting.ensures ∙ c.in-Some-meeting.is) ∙ sym (ap meetings_of next)
+    c.in_ok-push.ensures.items ∙ ap (λ (l : List Meeting). l ++ c.in-Some-meeting_beyond.meeting ∷ []) c.loop-link.invariant
+    ∙ meetings_push before (c.in-Some.link.now, c.in-Some.tally.now) c.in-Some-meeting_beyond.meeting on (sym c.meeting_beyond.ensures ∙ c.in-Some-meeting_beyond.is) ∙ sym (ap meetings_of next)
 
 pub returns : goal.returns
 returns c =

@@ -1,5 +1,5 @@
 -- One link more.
-use Rattle.std.proofs.Common.{◌≡◌, ◌∙◌, ◌+◌, ◌++◌, [], ◌∷◌, length, max, min, take, sym, ap, arith}
+use Rattle.std.proofs.Common.{◌≡◌, ◌∙◌, ◌+◌, ◌++◌, [], ◌∷◌, length, min, take, sym, ap, arith}
 use Rattle.std.proofs.lemmas.List.{length_push, take_all}
 use Rattle.std.proofs.lemmas.Slice.Zip.{length-zip, zip_end, zip_turn}
 use Rattle.vl_config.specs.Link.{VirtualLink}
@@ -39,8 +39,8 @@ loop-link-preserved-then-link c =
     let a = c.saturating_add.ensures ∙ ap (λ n. min (c.loop-link.pairs.a + n) 18446744073709551615) c.frames.ensures in
     let b = c.saturating_add-then-link.ensures ∙ ap (λ n. min (c.loop-link.pairs.b + n) 18446744073709551615) c.frames-then-link.ensures in
     let copies = c.saturating_add-then-link-2.ensures ∙ ap (λ n. min (c.loop-link.pairs.copies + n) 18446744073709551615) c.copies.ensures in
-    let skew = c.max.ensures ∙ ap (λ (l : VirtualLink). max c.loop-link.pairs.skew l.skew) c.link.view_is in
-    pairs_count c.loop-link.pairs _ before (c.in-Some.link.now, c.in-Some.tally.now) on c.loop-link.invariant a b copies skew ∙ sym (ap pairs_of next)
+    let met = c.saturating_add-then-link-3.ensures ∙ ap (λ n. min (c.loop-link.pairs.met + n) 18446744073709551615) c.meetings_in.ensures in
+    pairs_count c.loop-link.pairs _ before (c.in-Some.link.now, c.in-Some.tally.now) on c.loop-link.invariant a b copies met ∙ sym (ap pairs_of next)
 
 pub returns : goal.returns
 returns c =

@@ -3,7 +3,7 @@ use Rattle.std.proofs.Common.{◌≡◌, ◌∙◌, ◌++◌, ◌||◌, List, []
 use Rattle.std.proofs.lemmas.Bool.{both_ways}
 use Rattle.std.proofs.lemmas.List.{append-nil}
 use Rattle.traffic_survey.specs.Parts.{pairs_in}
-use Rattle.traffic_survey.specs.Questions.{AsksClocks, has_checks, is_settled, of_classes, of_networks, overlap_in}
+use Rattle.traffic_survey.specs.Questions.{AsksClocks, has_checks, is_settled, of_classes, of_empty, of_networks, of_recordings}
 use Rattle.traffic_survey.specs.Taps.{are_same}
 use Rattle.traffic_survey.specs.declared.decide.Overlap.{Overlap}
 use Rattle.traffic_survey.specs.declared.questions.Question.{Question}
@@ -15,16 +15,19 @@ pub returns : goal.returns
 returns c =
     let inputs = c.args.inputs.now in
     let overlap = c.overlap-overlap.ensures in
-    let networks : c.ask_of_networks.new.questions.items ≡ of_networks inputs.a inputs.b (overlap_in c.args.look) =
-    c.in_ok-ask_of_networks.ensures ∙ ap (λ (l : List Question). l ++ of_networks c.tap-a.result.now c.tap-b.result.now c.overlap-overlap.result) c.new-questions.ensures.items
-    ∙ ap (λ (t : TapTally). of_networks t c.tap-b.result.now c.overlap-overlap.result) c.tap-a.ensures ∙ ap (λ (t : TapTally). of_networks inputs.a t c.overlap-overlap.result) c.tap-b.ensures
-    ∙ ap (of_networks inputs.a inputs.b) overlap in
+    let empty = of_empty c.args.look in
+    let first : c.ask_of_empty.new.questions.items ≡ empty = c.in_ok-ask_of_empty.ensures ∙ ap (λ (l : List Question). l ++ empty) c.new-questions.ensures.items in
+    let networks : c.ask_of_networks.new.questions.items ≡ of_recordings inputs c.args.look =
+    c.in_ok-ask_of_networks.ensures ∙ ap (λ (l : List Question). l ++ of_networks c.tap-a.result.now c.tap-b.result.now c.overlap-overlap.result) first
+    ∙ ap (λ (t : TapTally). empty ++ of_networks t c.tap-b.result.now c.overlap-overlap.result) c.tap-a.ensures
+    ∙ ap (λ (t : TapTally). empty ++ of_networks inputs.a t c.overlap-overlap.result) c.tap-b.ensures
+    ∙ ap (λ (o : Option Overlap). empty ++ of_networks inputs.a inputs.b o) overlap in
     let frames = c.in_ok-has_checks.ensures.asked in
     let settled : c.is_settled.result ≡ is_settled inputs.a inputs.b =
     c.is_settled.ensures ∙ ap (λ t. t || are_same c.tap-a.result.now c.tap-b.result.now) c.in_ok-has_checks.ensures.checks
     ∙ ap (λ (t : TapTally). (has_checks inputs.a || has_checks inputs.b) || are_same t c.tap-b.result.now) c.tap-a.ensures
     ∙ ap (λ (t : TapTally). (has_checks inputs.a || has_checks inputs.b) || are_same inputs.a t) c.tap-b.ensures in
-    let before = of_networks inputs.a inputs.b (overlap_in c.args.look) in
+    let before = of_recordings inputs c.args.look in
     let classes = of_classes inputs.a inputs.b in
     let asked : c.ask_of_classes.new.questions.items ≡ before ++ (frames.asked ++ classes) =
     c.in_ok-ask_of_classes.ensures ∙ ap (λ (l : List Question). l ++ of_classes c.tap-a.result.now c.tap-b.result.now) (frames.appended ∙ ap (λ (l : List Question). l ++ frames.asked) networks)
