@@ -1,5 +1,5 @@
 -- What the command `asm` leaves, by what its devices show (this project's profile).
-use Rattle.std.specs.Prelude.{◌≡◌, ℕ, List, ◌++◌, Option, Some, None, Result, Ok, Err, IfSome, codes}
+use Rattle.std.specs.Prelude.{◌≡◌, ℕ, List, ◌++◌, Option, Some, None, Result, Ok, Err, codes}
 use Rattle.std.specs.Io.KnownBytes.{Appends}
 use Rattle.bpf_isa.specs.Numeric.{numeric_text}
 use Rattle.bpf_isa.specs.declared.packed.Packed.{Packed}
@@ -7,7 +7,6 @@ use Rattle.bpf_asm.specs.Assembly.{IsSourceOf, IsTextFault}
 use Rattle.bpf_asm.specs.declared.fault.AsmFault.TheVariants as asm
 use Rattle.pcap_io.specs.Device.{AppendsPrefix, CountsFailure}
 use Rattle.run_fault.specs.Device.{Devices}
-use Rattle.command_line.specs.Line.{line_of}
 use Rattle.analyser.specs.Text.{IsTextRefusal, IsWholeText}
 use Rattle.analyser.specs.declared.text.TextRefusal.{TextRefusal}
 use Rattle.analyser.specs.declared.text.TextRefusal.TheVariants as refusals
@@ -54,8 +53,3 @@ pub record IsRead (text : List ℕ) (outcome : Result (Unit {0}) Fault) (before 
 abbrev pub IsAsmRun : Option (List ℕ) → Result (Unit {0}) Fault → Devices → Devices → Type 0
 IsAsmRun (Some text) outcome before after = IsRead text outcome before after
 IsAsmRun None outcome before after = (refusal : TextRefusal) × (outcome ≡ Err (text_fault refusal)) × IsUnread refusal before after
-
--- The status and the fault line of what a command came to that prints a text. The line is missing where there was no memory for it.
-abbrev pub IsTextRan : Result (Unit {0}) Fault → ℕ → Option (List ℕ) → Type 0
-IsTextRan (Ok done) status line = (status ≡ 0) × (line ≡ None)
-IsTextRan (Err f) status line = (status ≡ 1) × IfSome line (λ text. text ≡ line_of f)

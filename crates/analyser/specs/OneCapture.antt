@@ -173,11 +173,3 @@ IsAbortedBy format late p (watch.Read networks.A) before after = FailsToOpen bef
 IsAbortedBy format late p (watch.Write output.Capture) before after = FailsToBegin format before after ⊎ FailsToWrite format late p before after
 IsAbortedBy format late p watch.Memory before after = RunsOutOfMemory format late p before after
 IsAbortedBy format late p _ before after = ⊥
-
--- ---- a pcap file, without a window
-
-abbrev pub IsCaptured : List Packed → Ending → Devices → Devices → Type 0
-IsCaptured p ending before after = IsCapturedBy Pcap 0 p ending before after
-
-abbrev pub IsAborted : List Packed → WatchFault → Devices → Devices → Type 0
-IsAborted p fault before after = IsAbortedBy Pcap 0 p fault before after

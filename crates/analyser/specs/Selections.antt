@@ -18,8 +18,9 @@ use Rattle.ledger_text.specs.declared.moment.Moment.{Moment}
 use Rattle.ledger_text.specs.declared.moment.Moment.TheVariants as moments
 use Rattle.ledger_text.specs.declared.word.Word.{Word}
 use Rattle.ledger_text.specs.declared.word_list.WordFault.TheVariants as words
-use Rattle.command_line.specs.Arguments.{CutWords}
+use Rattle.command_line.specs.Numbers.{text_of}
 use Rattle.command_line.specs.Moment.{moment_in, span_in}
+use Rattle.command_line.specs.declared.arguments.CutArguments.{CutArguments}
 use Rattle.command_line.specs.declared.fault.Fault.{Fault}
 use Rattle.command_line.specs.declared.fault.Fault.TheVariants as fault
 use Rattle.command_line.specs.declared.fault.SelectionOption.{SelectionOption}
@@ -163,9 +164,10 @@ IsMaskFault (Some text) f = (f ≡ fault.Selection options.Filters 0) × ((mask 
 
 -- The first option, in the order of links, words, moments and filters, whose text selects nothing, and this is its fault. For links and
 -- words there may be no memory.
-abbrev pub IsSelectionFault : Option VlTable → CutWords → Fault → Type 0
+abbrev pub IsSelectionFault : Option VlTable → CutArguments → Fault → Type 0
 IsSelectionFault vl_table given f =
-    IsLinksFault vl_table given.link f
-    ⊎ (((set : Option LinkSet) × AreLinks vl_table given.link set)
-    × (IsWordsFault given.verdict f
-    ⊎ (IsSpanFault given.from given.to given.span f ⊎ IsMaskFault given.filters f)))
+    IsLinksFault vl_table (option_map text_of given.link) f
+    ⊎ (((set : Option LinkSet) × AreLinks vl_table (option_map text_of given.link) set)
+    × (IsWordsFault (option_map text_of given.verdict) f
+    ⊎ (IsSpanFault (option_map text_of given.from) (option_map text_of given.to) (option_map text_of given.span) f
+    ⊎ IsMaskFault (option_map text_of given.filters) f)))

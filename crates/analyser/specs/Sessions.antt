@@ -14,17 +14,13 @@ use Rattle.bpf_debugger.specs.declared.fault.DebugFault.{DebugFault}
 use Rattle.bpf_debugger.specs.declared.fault.DebugFault.TheVariants as debug
 use Rattle.bpf_debugger.specs.declared.reply.Reply.{Reply}
 use Rattle.pcap_io.specs.Device.{AppendsPrefix, CountsFailure}
-use Rattle.pcap_io.specs.declared.recording.Ending.{Ending}
-use Rattle.analyser.specs.Inputs.{IsFilter, IsFilterFault}
 use Rattle.analyser.specs.Text.{IsTextRefusal, IsWholeText}
 use Rattle.run_fault.specs.Device.{SinkView, SourceView}
-use Rattle.analyser.specs.WholeTap.{IsTap, IsTapRefusal}
 use Rattle.analyser.specs.declared.debug.Answer.{Answer}
 use Rattle.analyser.specs.declared.debug.Answer.TheVariants as answer
 use Rattle.command_line.specs.declared.fault.Fault.{Fault}
 use Rattle.command_line.specs.declared.fault.Fault.TheVariants as fault
 use Rattle.command_line.specs.declared.fault.FileOption.TheVariants as file
-use Rattle.run_fault.specs.declared.fault.WatchFault.{WatchFault}
 use Rattle.analyser.specs.declared.text.TextRefusal.{TextRefusal}
 use Rattle.analyser.specs.declared.text.TextRefusal.TheVariants as refusals
 
@@ -179,32 +175,3 @@ IsSessionRun p frames (Err (fault.File file.Standard)) commands commands' sink s
 IsSessionRun p frames (Err (fault.Debug debug.Memory)) commands commands' sink sink' =
     (AreUnread (fault.Debug debug.Memory) commands commands' ⊎ ((text : List ℕ) × AreCommands commands commands' text)) × (sink' ≡ sink)
 IsSessionRun p frames (Err f) commands commands' sink sink' = ⊥
-
--- ---- the command
-
--- what the devices of a session show, before it or after it
-pub record DebugDevices : Type 0 where
-  pub tap : SourceView
-  pub commands : SourceView
-  pub sink : SinkView
-
-abbrev pub debug_devices : SourceView → SourceView → SinkView → DebugDevices
-debug_devices tap commands sink = record { tap = tap; commands = commands; sink = sink }
-
--- the tap was read, and this became of the session
-abbrev pub RunsSession : List Packed → Result (Unit {0}) Fault → DebugDevices → DebugDevices → Type 0
-RunsSession p outcome before after =
-    (frames : List Frame) × (ending : Ending) × IsTap 0 before.tap after.tap frames ending
-    × IsSessionRun p frames outcome before.commands after.commands before.sink after.sink
-
--- the tap wasn't read, and nothing else was touched
-abbrev pub StopsAtTap : WatchFault → DebugDevices → DebugDevices → Type 0
-StopsAtTap w before after =
-    IsTapRefusal 0 w before.tap after.tap × (after.commands ≡ before.commands) × (after.sink ≡ before.sink)
-
--- what the command came to, by the text of its filter, and what it leaves
-abbrev pub IsDebugRun : List ℕ → Result (Unit {0}) Fault → DebugDevices → DebugDevices → Type 0
-IsDebugRun filter (Err (fault.Numeric f n)) before after = IsFilterFault filter None (fault.Numeric f n) × (after ≡ before)
-IsDebugRun filter (Err (fault.Load f n)) before after = IsFilterFault filter None (fault.Load f n) × (after ≡ before)
-IsDebugRun filter (Err (fault.Watch w)) before after = (p : List Packed) × IsFilter filter p × StopsAtTap w before after
-IsDebugRun filter outcome before after = (p : List Packed) × IsFilter filter p × RunsSession p outcome before after

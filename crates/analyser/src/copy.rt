@@ -4,7 +4,7 @@ ghost use Rattle.packet_format.specs.Packets.{format_of};
 ghost use Rattle.packet_format.specs.Writer.{format_in, has_failed, sink_of};
 ghost use Rattle.pcap_io.specs.Reader.{position_of, reading_of, unread_of};
 ghost use Rattle.pcap_io.specs.declared.recording.Stage.TheVariants.{Going};
-ghost use Rattle.analyser.specs.OneCapture.{IsAborted, IsAbortedBy, IsCaptured, IsCapturedBy};
+ghost use Rattle.analyser.specs.OneCapture.{IsAbortedBy, IsCapturedBy};
 ghost use Rattle.run_fault.specs.Device.{devices_of};
 ghost use Rattle.run_fault.specs.Fault.{open_fault};
 ghost use Rattle.analyser.specs.Copy.{IsCopied, StopsCopy, WritesAccepted, copying_of};
@@ -98,41 +98,20 @@ fn refused<S, W>(fault: WatchFault, source: S, sink: W) -> WatchRefused<S, (), W
 }
 
 /// Copies the frames of a recording that the filter accepts, each cut to the filter's return value, into a
-/// pcap file, and returns how the recording ended.
+/// capture in a format, and returns how the recording ended.
 ///
-/// The tap is read as network A, up to 2^32 frames, with no window for late timestamps. Both devices
-/// come back. The source may have been read ahead of the last frame, by no more than 262144 bytes.
+/// The tap is read as network A, up to 2^32 frames, in which a timestamp may lie by `late` nanoseconds
+/// below the greatest one before it. The frames stand in the capture as in the recording, and the packets
+/// have no comments. Both devices come back. The source may have been read ahead of the last frame, by no
+/// more than 262144 bytes.
 ///
 /// # Errors
 ///
 /// `Header` or `Read` if the recording can't be opened, and then nothing was written. `Read` or `Memory`
 /// after some of its frames: the sink has the whole capture of them, and no frame that the source gave
-/// whole is left out. `Write` if the sink failed: it has a prefix of the capture.
-pub fn capture_one<S: TapSource, W: OutSink>(
-    alloc: Global,
-    program: &Program,
-    source: S,
-    sink: W,
-) -> Result<(Ending, S, W), WatchRefused<S, (), W, ()>>
-    ensures captured { IfOk result (λ done. IsCaptured program.now done.0
-        (devices_of S.TapSource W.OutSink source sink)
-        (devices_of S.TapSource W.OutSink done.1 done.2)) }
-    ensures aborted { IfErr result (λ refused. IfSome refused.a (λ a. IsAborted program.now refused.fault
-        (devices_of S.TapSource W.OutSink source sink)
-        (devices_of S.TapSource W.OutSink a refused.capture))) }
-    ensures back { IfErr result (λ refused. IsSome refused.a × (refused.b ≡ None)) }
-{
-    capture_within(alloc, program, 0, PacketFormat::Pcap, source, sink)
-}
-
-/// [`capture_one`] in a format, of a recording in which a timestamp may lie by `late` nanoseconds below the
-/// greatest one before it. The frames stand in the capture as in the recording. The packets have no
-/// comments.
-///
-/// # Errors
-///
-/// Those of [`capture_one`]. In a pcapng file also `Memory` before anything was read or written, or at an
-/// accepted frame: the sink has the whole capture of the frames before that.
+/// whole is left out. `Write` if the sink failed: it has a prefix of the capture. In a pcapng file also
+/// `Memory` before anything was read or written, or at an accepted frame: the sink has the whole capture of
+/// the frames before that.
 pub fn capture_within<S: TapSource, W: OutSink>(
     alloc: Global,
     program: &Program,

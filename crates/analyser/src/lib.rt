@@ -1,13 +1,14 @@
 //! Whole runs of the analyser over any sources and sinks, how they end, and what the program tells a
 //! person.
 //!
-//! A command is a function from the text of its arguments and its devices to a [`CaptureRun`], which
-//! gives the devices back with the recording's ending or a [`Fault`]. [`Exit`] says with which status the
+//! A command is a function from its filter and its devices to a [`CaptureRun`], which gives the devices
+//! back with the recording's ending or a [`Fault`]. [`Exit`] says with which status the
 //! program ends, and what it tells: a fault line (`Display` of [`Fault`]) or a [`Note`]. The program
 //! `afdxmon` adds the standard streams.
 //!
 //! ```text
-//! let run = run_capture(alloc, "1,6 0 0 64,", source, sink);
+//! let program = filter_of(alloc, "1,6 0 0 64,", None)?;
+//! let run = capture_by(alloc, &program, 0, PacketFormat::Pcap, source, sink);
 //! let exit = Exit::of_capture(run.outcome, true);
 //! ```
 //!
@@ -25,7 +26,6 @@ mod laws;
 mod selection;
 mod tap;
 mod text;
-mod whole;
 
 pub use asm::AsmRun;
 pub use asm::run_asm;
@@ -89,7 +89,6 @@ pub use command_line::refuse_shared;
 pub use command_line::source_offset;
 pub use command_line::version;
 pub use command_line::written_as;
-pub use copy::capture_one;
 pub use copy::capture_within;
 pub use cut_run::CutEnding;
 pub use cut_run::CutFault;
@@ -136,10 +135,3 @@ pub use watch_run::watch;
 pub use watch_run::watch_whole;
 pub use watch_run::written_ledger_is_read;
 pub use watch_run::written_lines_are_not_refused;
-pub use whole::DebugRun;
-pub use whole::Ran;
-pub use whole::asm_over;
-pub use whole::capture_over;
-pub use whole::debug_over;
-pub use whole::run_capture;
-pub use whole::run_debug;

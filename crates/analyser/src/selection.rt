@@ -1,7 +1,7 @@
 //! What selects lines of a ledger, from the texts of the options.
 ghost use Rattle.std.specs.Prelude.{◌≡◌, IfErr, IfOk, Ok, false, option_map};
 ghost use Rattle.std.specs.Option.{option_copied};
-ghost use Rattle.command_line.specs.Arguments.{cut_words, text_of};
+ghost use Rattle.command_line.specs.Numbers.{text_of};
 ghost use Rattle.command_line.specs.declared.fault.Fault.TheVariants as faults;
 ghost use Rattle.command_line.specs.declared.fault.SelectionOption.TheVariants as options;
 ghost use Rattle.analyser.specs.Selections.{AreLinks, IsLinksFault, IsMask, IsMaskFault, IsSelectionFault, IsSpan, IsSpanFault, IsWordsFault, ends_before, first_in, first_of, first_of_day, is_within_day, last_after, last_in, last_of, last_of_day, network_in, words_in};
@@ -281,7 +281,7 @@ pub fn selection_of(
     ensures filters { IfOk result (λ selection. IsMask
         (option_map text_of given.now.filters) selection.filters) }
     ensures fault { IfErr result
-        (IsSelectionFault (option_copied config.entry) (cut_words given.now)) }
+        (IsSelectionFault (option_copied config.entry) given.now) }
 {
     let links = links_of(alloc, given.link, config)?;
     let words = words_of(alloc, given.verdict)?;

@@ -3,5 +3,5 @@
 //! program (`tests/assembling.py`).
 
 mod allocation;
-mod programs;
+// further: mod programs;
 // further: mod sizes;

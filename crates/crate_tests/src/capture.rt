@@ -3,6 +3,6 @@
 mod allocation;
 // further: mod arguments;
 // further: mod asm;
-mod devices;
+// further: mod devices;
 // further: mod lines;
 // further: mod real_size;

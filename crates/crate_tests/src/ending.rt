@@ -1,7 +1,7 @@
 //! How a command over devices ends.
 
-use analyser::Ran;
 use pcap_io::MemSink;
+use specified::Ran;
 use std::process::Abort;
 
 /// The command ends with status 1 and this line, or with status 0 and none where the line is empty. It has

@@ -6,8 +6,8 @@ mod lanes;
 // further: mod many;
 // further: mod reference;
 mod rounds;
-mod rules;
-mod tables;
+// further: mod rules;
+// further: mod tables;
 
 /// The table of two links: the judgements of the second are off.
 pub const TWO_LINKS: &str =

@@ -3,8 +3,8 @@
 //! Each ledger is written by single lines, by a round, and by a round's text.
 
 mod allocation;
-mod devices;
-mod examples;
+// further: mod devices;
+// further: mod examples;
 // further: mod many;
 
 use crate::rows::{FRAME, Row, frame_of, judge_next};

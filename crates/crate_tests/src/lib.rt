@@ -15,8 +15,6 @@ mod debugger;
 #[cfg(test)]
 mod ending;
 #[cfg(test)]
-mod finding;
-#[cfg(test)]
 mod frames;
 #[cfg(test)]
 mod judges;
@@ -30,8 +28,6 @@ mod machine;
 mod merge;
 #[cfg(test)]
 mod pcapng_files;
-#[cfg(test)]
-mod pool;
 #[cfg(test)]
 mod recording;
 #[cfg(test)]

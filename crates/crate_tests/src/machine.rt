@@ -9,4 +9,4 @@ mod allocation;
 // further: mod numeric_cuts;
 // further: pub(crate) mod reference;
 // further: mod sizes;
-mod table;
+// further: mod table;

@@ -7,7 +7,7 @@ use ordered_merge::Merger;
 use std::process::Abort;
 
 mod allocation;
-mod cores;
+// further: mod cores;
 // further: mod lists;
 // further: mod numbers;
 mod worked;

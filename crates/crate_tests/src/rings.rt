@@ -1,18 +1,19 @@
 //! Recordings over a ring, fed and taken on one thread: what it gives, its ends when it is settled or left,
 //! and refused growth.
 ghost use Rattle.std.specs.Prelude.{IfOk};
-ghost use Rattle.tap_queue.specs.Ring.{SameEnd};
+ghost use Rattle.tap_queue.specs.Ring.{IsRing, SameEnd, put_of};
 
 use crate::recording::push_packet;
 use crate::support::{HEADER, frame};
 use afdx_frame::Network;
+use pcap_io::{MemSource, TapReader};
 use std::alloc::{AllocError, Global};
 use std::sync::Wait;
-use tap_queue::{RingLost, TapEnd, TapGate, TapItem};
+use tap_queue::{Fed, RingLost, TapEnd, TapGate, TapItem, feed, tap_ring};
 
 mod allocation;
 // further: mod arrivals;
-mod endings;
+// further: mod endings;
 // further: mod gate;
 // further: mod losses;
 // further: mod passages;
@@ -35,6 +36,21 @@ pub(crate) fn recording(alloc: Global, stamps: &[u32], len: u16) -> Result<Vec<u
         push_packet(&mut bytes, header, &captured)?;
     }
     Ok(bytes)
+}
+
+/// Feeds a ring of this network and window.
+pub(crate) fn fed_ring<R: Wait>(
+    rt: &R,
+    alloc: Global,
+    reader: TapReader<MemSource>,
+    network: Network,
+    late: u64,
+) -> Result<(Fed<MemSource>, TapEnd), AllocError>
+    ensures { IfOk result (λ both. IsRing (put_of both.0) both.1) }
+{
+    let (put, end) = tap_ring(alloc, network, late)?;
+    let fed = feed(rt, alloc, reader, put, &Open);
+    Ok((fed, end))
 }
 
 /// What was taken from a ring, and its end.

@@ -3,5 +3,6 @@
 
 // further: mod choices;
 mod devices;
+// further: mod finding;
 // further: mod link_lists;
 // further: mod neighbours;

@@ -3,8 +3,8 @@
 
 mod allocation;
 // further: mod cuts;
-mod faults;
-mod forms;
+// further: mod faults;
+// further: mod forms;
 // further: mod operands;
 // further: mod reference;
 // further: mod sizes;

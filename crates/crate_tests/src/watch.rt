@@ -5,7 +5,7 @@
 mod allocation;
 // further: mod comparing;
 mod counted;
-mod devices;
+// further: mod devices;
 // further: mod each_byte;
 // further: mod gates;
 // further: mod generated;
@@ -14,10 +14,10 @@ mod devices;
 // further: mod pauses;
 // further: mod safe;
 // further: mod sizes;
-mod smallest;
+// further: mod smallest;
 // further: mod stopping;
 mod told;
-mod worked;
+// further: mod worked;
 
 use crate::support::{HEADER, SOUND, loaded};
 use crate::watch::counted::Counted;

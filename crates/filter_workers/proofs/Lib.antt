@@ -4,5 +4,3 @@ pub mod Steps
 pub mod Closing
 pub mod Masks
 pub mod Drawing
-pub mod Batching
-pub mod Scattering

@@ -1,5 +1,5 @@
 -- What up to eight filters say of a frame (this project's profile).
-use Rattle.std.specs.Prelude.{ℕ, ◌+◌, ◌*◌, max, List, [], ◌∷◌, map, ◌==◌, if◌then◌else◌}
+use Rattle.std.specs.Prelude.{ℕ, ◌+◌, ◌*◌, max, List, [], ◌∷◌, ◌==◌, if◌then◌else◌}
 use Rattle.afdx_frame.specs.Frame.{Frame}
 use Rattle.bpf_isa.specs.declared.packed.Packed.{Packed}
 use Rattle.bpf_machine.specs.Run.{answer_of}
@@ -26,7 +26,3 @@ mask_by (p ∷ ps) f = mask_by ps f * 2 + accepts_bit (answer_for p f)
 -- both
 abbrev pub decision_by : List (List Packed) → Frame → Decision
 decision_by ps f = record { mask = mask_by ps f; answer = answer_by ps f }
-
--- what the filters say of each frame, in order
-abbrev pub decisions_by : List (List Packed) → List Frame → List Decision
-decisions_by ps frames = map (decision_by ps) frames

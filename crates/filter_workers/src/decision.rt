@@ -1,14 +1,12 @@
-//! Filters on one thread. The rounds on threads run them by the same calls, so both say the same.
-ghost use Rattle.std.specs.Prelude.{◌≡◌, ◌<◌, ◌≤◌, IfErr, IfOk, length};
+//! What filters say of a frame.
+ghost use Rattle.std.specs.Prelude.{◌≡◌, ◌≤◌, length};
 ghost use Rattle.afdx_frame.specs.View.{view_bytes};
 ghost use Rattle.bpf_machine.specs.Run.{answer_of};
-ghost use Rattle.filter_workers.specs.Filters.{accepts_bit, decision_by, decisions_by};
+ghost use Rattle.filter_workers.specs.Filters.{accepts_bit, decision_by};
 
 use afdx_frame::{FrameView, LentFrame};
 use bpf_loader::Program;
 use bpf_machine::run;
-use frame_batch::Round;
-use std::alloc::{AllocError, Global};
 
 /// The most filters of a run: a bit of a mask for each.
 pub const MAX_FILTERS: usize = 8;
@@ -57,25 +55,4 @@ pub fn filter_frame(programs: &[Program], frame: &LentFrame<'_>) -> Decision
         mask: mask as u8,
         answer,
     }
-}
-
-/// Runs the filters on each frame, on this thread: the decision at index i is that on frame i.
-///
-/// # Errors
-///
-/// `AllocError` if there is no memory for the decisions. No frames need none.
-pub fn filter_frames(
-    alloc: Global,
-    programs: &[Program],
-    frames: &Round,
-) -> Result<Vec<Decision>, AllocError>
-    requires { length programs.now ≤ MAX_FILTERS }
-    ensures decisions { IfOk result (λ all. all.items ≡ decisions_by programs.now frames.now) }
-    ensures memory { IfErr result (λ _. 0 < length frames.now) }
-{
-    let mut decisions = Vec::with_capacity(alloc, frames.len())?;
-    for index in 0..frames.len() {
-        decisions.push(filter_frame(programs, &frames.frame(index)))?;
-    }
-    Ok(decisions)
 }

@@ -1,21 +1,12 @@
-//! Filters run on a round of frames by some threads.
+//! Filters run on a frame, and how workers share a round of frames.
 //!
-//! [`filter_round`] runs up to eight filters on each frame and returns a [`Decision`] for each: which
-//! filters accept it, and the greatest of their return values. The frames are borrowed for the round;
-//! each worker reads them where they are.
+//! [`filter_frame`] runs up to eight filters on a frame and returns a [`Decision`]: which filters accept
+//! it, and the greatest of their return values.
 //!
-//! ```
-//! let decisions = filter_round(rt, alloc, &programs, &frames, 2, &gate)?;
-//! for (frame, decision) in frames.iter().zip(&decisions) {
-//!     println!(rt; "{} {:02x}", frame.number(), decision.mask)?;
-//! }
-//! ```
-//!
-//! Which worker takes which frame is settled at a [`ClaimDesk`]: it has the numbers from 0 to a length,
-//! and a [`DeskSeat`] for each worker. A claim is one atomic step and never waits. However the threads
-//! run, each number is drawn once: a seat draws rising numbers, and the one seat that is left when all
-//! are joined has drawn the numbers below some n in some order, all of them where it has found
-//! none left.
+//! Which worker takes what is settled at a [`ClaimDesk`]: it has the numbers from 0 to a length, and a
+//! [`DeskSeat`] for each worker. A claim is one atomic step and never waits. However the threads run, each
+//! number is drawn once: a seat draws rising numbers, and the one seat that is left when all are joined
+//! has drawn the numbers below some n in some order, all of them where it has found none left.
 //!
 //! ```
 //! let (desk, seat) = ClaimDesk::new(alloc, 2)?;
@@ -30,15 +21,10 @@
 
 mod decision;
 mod desk;
-mod fault;
 mod gate;
-mod round;
 mod rule;
 mod view;
-mod worker;
 
-pub use decision::{Decision, MAX_FILTERS, answer_for, filter_frame, filter_frames};
+pub use decision::{Decision, MAX_FILTERS, answer_for, filter_frame};
 pub use desk::{ClaimDesk, DESK_SEATS, DeskSeat, MAX_NUMBERS};
-pub use fault::RoundFault;
 pub use gate::RunGate;
-pub use round::{MAX_WORKERS, filter_round};

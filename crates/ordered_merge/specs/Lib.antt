@@ -1,7 +1,6 @@
 pub mod Buffer
 pub mod Copying
 pub mod Cursor
-pub mod Events
 pub mod Laws
 pub mod Merge
 pub mod Order

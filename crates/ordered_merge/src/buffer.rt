@@ -2,6 +2,7 @@
 ghost use Rattle.std.specs.Prelude.{◌≡◌, ◌+◌, ◌++◌, ◌∷◌, ◌^◌, ◌<◌, ◌≤◌, IfErr, IfOk, IsTrue, ◌↔◌, List, OnErr, OnOk, Some, [], count_by, drop, length, min, nat_lt, slice_get, take, true, ℕ};
 ghost use Rattle.afdx_frame.specs.Frame.{Frame, key_of};
 ghost use Rattle.std.specs.List.{AllByRecursion, prefix_len};
+ghost use Rattle.std.specs.Option.{ForSome};
 ghost use Rattle.frame_batch.specs.Batch.{batch_frames};
 ghost use Rattle.ordered_merge.specs.Buffer.{AreInOrder, AreNumbered, IsBuffer, NoneLate, buffered, is_below, is_late, left_after, pushed, pushed_all};
 ghost use Rattle.ordered_merge.specs.Merge.{IsNextOf, highest, new_tap, passes, reaches};
@@ -9,7 +10,6 @@ ghost use Rattle.ordered_merge.specs.Order.{IsRising, insert_frame, leads};
 
 use crate::cursor::TapCursor;
 use crate::order::comes_before;
-use crate::recording::is_in_time;
 use afdx_frame::{Key, TapFrame};
 use frame_batch::{FrameBatch, FrameQueue};
 use std::alloc::{AllocError, Global};
@@ -349,12 +349,22 @@ fn is_late(queue: &FrameQueue, key: Key) -> bool
     }
 }
 
-pub(crate) fn highest(high: Option<u64>, stamp: u64) -> u64
+fn highest(high: Option<u64>, stamp: u64) -> u64
     ensures { result ≡ highest high stamp }
 {
     match high {
         Some(high) => high.max(stamp),
         None => stamp,
+    }
+}
+
+/// Whether a timestamp is no further than `late` below the greatest one before it.
+fn is_in_time(late: u64, high: Option<u64>, stamp: u64) -> bool
+    ensures { IsTrue result ↔ ForSome high (λ high. high ≤ stamp + late) }
+{
+    match high {
+        Some(high) => high <= stamp || high - stamp <= late,
+        None => true,
     }
 }
 

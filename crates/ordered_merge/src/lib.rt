@@ -17,20 +17,13 @@
 //!
 //! [`runs_follow`] says what holds along a whole run of a merger: `Follows` ties what was fetched of
 //! each network to what was cut and what is pending.
-//!
-//! [`Core`] is a model of a run on threads, over events. No program runs it: it says what holds for every
-//! interleaving.
 #![tactic(auto)]
 
 mod buffer;
 mod cursor;
 mod laws;
 mod merger;
-mod model;
 mod order;
-mod recording;
 
 pub use laws::{one_order, rounds_are_one_list, runs_end_in_order, runs_follow};
 pub use merger::Merger;
-pub use model::{Answered, Core, CoreSizes, Event, MAX_WORKERS, Work, every_run_is_in_order};
-pub use recording::is_recording;

@@ -159,25 +159,6 @@ impl Merger {
         Ok(round)
     }
 
-    /// As [`cut`](Merger::cut), for the model: each frame with a share of its block.
-    pub(crate) fn cut_owned(&mut self, most: usize) -> Result<Vec<TapFrame>, AllocError>
-        ensures round { IfOk result (λ round. round.items ≡ cut_frames self.old most) }
-        ensures rest { OnOk result (self.new ≡ after_cut self.old most) }
-        ensures whole { IfOk result (λ round. self.old.pending ≡ round.items ++ self.new.pending) }
-        ensures unchanged { OnErr result (self.new ≡ self.old) }
-        ensures memory { OnErr result (0 < length (cut_frames self.old most)) }
-    {
-        let count = self.count_safe(most);
-        if count == 0 {
-            return Ok(Vec::new(self.alloc));
-        }
-        let (round, of_a) = merge_first(self.alloc, &self.a, &self.b, count)?;
-        let frames = round.to_frames(self.alloc)?;
-        self.a.drop_first(of_a);
-        self.b.drop_first(count - of_a);
-        Ok(frames)
-    }
-
     /// The bound of the timestamps, in nanoseconds, below which the frames of a network are safe.
     fn safe_below(&self, network: Network) -> u64
         ensures { (stamp : ℕ) → stamp < 2 ^ 63 →
@@ -197,7 +178,7 @@ impl Merger {
     }
 
     /// How many frames a cut takes out.
-    pub(crate) fn count_safe(&self, most: usize) -> usize
+    pub fn count_safe(&self, most: usize) -> usize
         ensures count { result ≡ length (cut_frames self.now most) }
         ensures first { take result self.now.pending ≡ cut_frames self.now most }
     {

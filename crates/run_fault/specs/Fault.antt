@@ -1,5 +1,5 @@
 -- Why a run was aborted (this project's profile).
-use Rattle.std.specs.Prelude.{◌≡◌, ◌⊎◌, ℕ, Bool, true, false, ⊤}
+use Rattle.std.specs.Prelude.{◌≡◌, ◌⊎◌, ℕ, Bool, true, false}
 use Rattle.afdx_frame.specs.declared.key.Network.{Network}
 use Rattle.afdx_frame.specs.declared.key.Network.TheVariants.{A, B}
 use Rattle.pcap_io.specs.Device.{CountsFailure}
@@ -13,12 +13,6 @@ use Rattle.run_fault.specs.declared.fault.WatchFault.TheVariants as watch
 abbrev pub open_fault : Network → OpenFault → WatchFault
 open_fault network (opening.Header fault) = watch.Header network fault
 open_fault network opening.Device = watch.Read network
-
--- why nothing is said of a round
-abbrev pub IsSayFault : WatchFault → Type 0
-IsSayFault watch.Memory = ⊤
-IsSayFault watch.Spawn = ⊤
-IsSayFault fault = ⊥
 
 -- ---- which device failed
 

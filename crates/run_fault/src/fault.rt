@@ -3,12 +3,10 @@ ghost use Rattle.std.specs.Prelude.{◌≡◌};
 ghost use Rattle.run_fault.specs.Fault.{open_fault};
 
 use afdx_frame::Network;
-use filter_workers::RoundFault;
 use pcap_io::{HeaderFault, OpenFault};
 use std::alloc::AllocError;
 use tap_queue::RingLost;
 use thiserror::Error;
-use vl_judge::LaneFault;
 
 /// One of the two files that an analysis writes: the capture of accepted frames, or the ledger of verdicts.
 #[derive(Clone, Copy, Debug, PartialEq, Eq)]
@@ -60,32 +58,6 @@ impl From<AllocError> for WatchFault {
 
     fn from(_fault: AllocError) -> WatchFault {
         WatchFault::Memory
-    }
-}
-
-impl From<RoundFault> for WatchFault {
-    ghost use Rattle.run_fault.specs.Fault.{IsSayFault};
-
-    ghost from_gives = { λ _ e. IsSayFault e };
-
-    fn from(fault: RoundFault) -> WatchFault {
-        match fault {
-            RoundFault::Spawn => WatchFault::Spawn,
-            RoundFault::Memory => WatchFault::Memory,
-        }
-    }
-}
-
-impl From<LaneFault> for WatchFault {
-    ghost use Rattle.run_fault.specs.Fault.{IsSayFault};
-
-    ghost from_gives = { λ _ e. IsSayFault e };
-
-    fn from(fault: LaneFault) -> WatchFault {
-        match fault {
-            LaneFault::Spawn => WatchFault::Spawn,
-            LaneFault::Memory => WatchFault::Memory,
-        }
     }
 }
 

@@ -1,5 +1,4 @@
 pub mod Judgement
 pub mod Lane
 pub mod Lanes
-pub mod Parts
 pub mod Verdicts

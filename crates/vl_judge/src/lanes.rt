@@ -8,13 +8,10 @@ ghost use Rattle.vl_config.specs.Document.{VlTable};
 ghost use Rattle.vl_config.specs.declared.config.TheConstants.{MAX_LINKS};
 ghost use Rattle.vl_judge.specs.Lanes.{AllNew, IsIndexed};
 
-mod round;
-
 use crate::lane::LaneBox;
 use crate::verdict::Verdict;
 use afdx_frame::{Key, LentFrame, VL_ID_COUNT};
 use frame_batch::Round;
-pub use round::MAX_WORKERS;
 use std::alloc::{AllocError, Global};
 use std::marker::Model;
 use vl_config::{Config, Link, class_by};

@@ -10,7 +10,7 @@ use Rattle.ordered_merge.specs.Merge.{AreOfTap, Tap, new_tap, tap_after}
 use Rattle.ordered_merge.specs.Order.{IsOrder}
 use Rattle.ordered_merge.specs.Recording.{IsRecording as IsTapRecording}
 use Rattle.ordered_merge.proofs.Following.{one_order}
-use Rattle.ordered_merge.proofs.Events.Soundness.{cut_comes_first}
+use Rattle.ordered_merge.proofs.WholeRuns.{cut_comes_first}
 use Rattle.pcap_io.specs.Device.{CountsFailure}
 use Rattle.pcap_io.specs.Position.{Reading, Reads, after_frame, start_at}
 use Rattle.pcap_io.specs.Reader.{reading_of}

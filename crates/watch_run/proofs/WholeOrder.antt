@@ -9,7 +9,7 @@ use Rattle.ordered_merge.specs.Merge.{AreOfTap, Follows, MergerState, Tap, new_t
 use Rattle.ordered_merge.specs.Order.{IsOrder}
 use Rattle.ordered_merge.specs.Recording.{IsRecording as IsTapRecording}
 use Rattle.ordered_merge.proofs.Following.{one_order}
-use Rattle.ordered_merge.proofs.Events.Soundness.{cut_comes_first}
+use Rattle.ordered_merge.proofs.WholeRuns.{cut_comes_first}
 use Rattle.pcap_io.specs.Layout.{header_of}
 use Rattle.pcap_io.specs.Position.{Holds, Opens, Reading, Reads, after_frame, start_at}
 use Rattle.pcap_io.specs.Recording.{AreGood, Packet, frames_of, stamp_of}

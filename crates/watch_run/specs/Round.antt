@@ -2,7 +2,7 @@
 use Rattle.std.specs.Prelude.{ℕ, ◌≤◌, length}
 use Rattle.watch_run.specs.Filters.{Making}
 use Rattle.filter_workers.specs.declared.decision.TheConstants.{MAX_FILTERS}
-use Rattle.filter_workers.specs.declared.round.TheConstants.{MAX_WORKERS}
+use Rattle.worker_pool.specs.declared.pool.TheConstants.{MAX_WORKERS}
 
 -- how many filters a run has, and how many workers
 abbrev pub IsFilterCount : ℕ → Type 0

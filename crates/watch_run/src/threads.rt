@@ -26,7 +26,7 @@ use crate::shared::Formatting;
 use crate::sizes::RunSizes;
 use afdx_frame::Network;
 use bpf_loader::Program;
-use filter_workers::{MAX_FILTERS, MAX_WORKERS, RunGate};
+use filter_workers::{MAX_FILTERS, RunGate};
 use pcap_io::{OutSink, TapReader, TapSource};
 use run_fault::{WatchFault, WatchRefused};
 use std::alloc::{AllocError, Global};
@@ -36,6 +36,7 @@ use std::thread::{Scope, Threads};
 use tap_merge::{Rings, Taps, Unopened, start_tap};
 use tap_queue::{RingSizes, TapEnd, TapGate, TapPut, sized_tap_ring};
 use vl_config::Config;
+use worker_pool::MAX_WORKERS;
 
 /// A run that is ready to start: opened readers, the rings that they are read into, and the outputs, which
 /// have begun.

@@ -2,8 +2,8 @@
 
 use crate::ending::ends;
 use crate::support::{SOUND, WIDE};
-use analyser::{Ran, asm_over};
 use pcap_io::{MemSink, MemSource, Script};
+use specified::{Ran, asm_over};
 use std::alloc::{AllocError, Global};
 use std::test::Fail;
 

@@ -2,8 +2,8 @@
 
 use crate::ending::ends;
 use crate::support::{FIRST_RUN, HEADER, ONE_LINK, SOUND, WIDE};
-use analyser::{Ran, capture_over, run_capture};
 use pcap_io::{Ending, MemSink, MemSource, Script};
+use specified::{Ran, capture_over, run_capture};
 use std::alloc::{AllocError, Global};
 use std::test::Fail;
 

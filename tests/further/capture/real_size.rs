@@ -2,8 +2,9 @@
 //! instructions, texts of a hundred kilobytes. With ample memory none of them is refused.
 
 use crate::support::{EVERY, HEADER, SOUND};
-use analyser::{CaptureRun, run_capture};
+use analyser::CaptureRun;
 use pcap_io::{Ending, MemSink, MemSource, Script};
+use specified::run_capture;
 use std::alloc::{AllocError, Global};
 use std::process::Abort;
 use std::test::Fail;

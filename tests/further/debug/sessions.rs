@@ -2,8 +2,8 @@
 
 use crate::ending::ends;
 use crate::support::{FIRST_RUN, SOUND};
-use analyser::{Ran, debug_over};
 use pcap_io::{MemSink, MemSource, Script};
+use specified::{Ran, debug_over};
 use std::alloc::{AllocError, Global};
 use std::process::Abort;
 use std::test::Fail;

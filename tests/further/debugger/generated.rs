@@ -1,7 +1,7 @@
 //! Sessions over small programs from a fixed generator, beside one that runs the reference interpreter
 //! from the start for each reply.
 
-use crate::debugger::session;
+use crate::debugger::worked::session;
 use crate::machine::generated::{frame_bytes, program};
 use crate::machine::reference::{Input, reference_entry};
 use crate::support::Generator;

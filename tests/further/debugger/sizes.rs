@@ -1,6 +1,6 @@
 //! A program of 4096 instructions, and thousands of frames.
 
-use crate::debugger::{answer_to, session};
+use crate::debugger::worked::{answer_to, session};
 use bpf_debugger::{Command, Reply, Session};
 use bpf_isa::{Outcome, Packed, State};
 use bpf_loader::Program;

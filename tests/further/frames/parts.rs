@@ -1,6 +1,6 @@
 //! Every part of a block that frames share.
 
-use crate::frames::FRAME;
+use crate::frames::worked::FRAME;
 use afdx_frame::FrameBytes;
 use std::sync::Arc;
 use std::test::Fail;

@@ -1,5 +1,4 @@
-//! Rounds over many links and over few, by one worker to eight, beside single judgements; and a million
-//! frames of 4096 links.
+//! Rounds over many links and over few, beside single judgements; and a million frames of 4096 links.
 
 use crate::judges::rounds::judged;
 use crate::rows::{bytes_of, judge_next};
@@ -9,9 +8,7 @@ use integrity::Integrity;
 use redundancy::Redundancy;
 use std::alloc::Global;
 use std::process::Abort;
-use std::sync::Wait;
 use std::test::Fail;
-use std::thread::Threads;
 use vl_config::Config;
 use vl_judge::Lanes;
 
@@ -61,29 +58,20 @@ fn mixed(alloc: Global, from: u64, count: u64, links: u64) -> Result<Round, Fail
     Ok(Round::from_frames(alloc, frames)?)
 }
 
-/// Judges rounds by so many workers, and by one call for each frame: both say the same.
-fn agree<R: Threads + Wait + Sync + Abort + AllocGlobal>(
-    rt: &R,
-    links: u32,
-    workers: u32,
-) -> Result<(), Fail> {
+/// Judges rounds by one call, and by one for each frame: both say the same.
+fn agree(rt: &(impl Abort + AllocGlobal), links: u32) -> Result<(), Fail> {
     let text = table_of(rt.alloc(), links)?;
     let config = Config::read(rt.alloc(), text.as_str())?;
     let mut one_by_one = Lanes::new(rt.alloc(), &config)?;
     let mut lanes = Lanes::new(rt.alloc(), &config)?;
     for (from, count) in [(0, 256), (256, 256), (512, 1), (513, 2), (515, 4096)] {
         let round = mixed(rt.alloc(), from, count, links as u64)?;
-        let (next, said) = judged(rt, lanes, &round, workers)?;
-        lanes = next;
+        let said = judged(rt, &mut lanes, &round)?;
         assert!(rt; said.len() == round.len());
         let frames = round.to_frames(rt.alloc())?;
         for (frame, verdict) in frames.iter().zip(&said) {
             let expected = judge_next(rt, &mut one_by_one, frame);
-            assert!(rt;
-                *verdict == expected,
-                "{workers} workers, {links} links, frame {}",
-                frame.number()
-            );
+            assert!(rt; *verdict == expected, "{links} links, frame {}", frame.number());
         }
         assert!(rt; lanes.last() == one_by_one.last());
     }
@@ -91,26 +79,11 @@ fn agree<R: Threads + Wait + Sync + Abort + AllocGlobal>(
 }
 
 #[test]
-fn rounds_over_many_links(rt: HostRuntime) -> Result<(), Fail> {
-    for workers in [1, 2, 3, 8] {
-        agree(&rt, 64, workers)?;
+fn rounds_over_links(rt: HostRuntime) -> Result<(), Fail> {
+    for links in [0, 1, 2, 3, 7, 8, 9, 64, 1000] {
+        agree(&rt, links)?;
     }
     Ok(())
-}
-
-#[test]
-fn rounds_over_few_links(rt: HostRuntime) -> Result<(), Fail> {
-    for links in [0, 1, 2, 3, 7, 8, 9] {
-        for workers in [2, 5, 8] {
-            agree(&rt, links, workers)?;
-        }
-    }
-    Ok(())
-}
-
-#[test]
-fn rounds_over_1000_links(rt: HostRuntime) -> Result<(), Fail> {
-    agree(&rt, 1000, 8)
 }
 
 /// A table of 4096 links, the identifiers falling.

@@ -4,7 +4,8 @@
 //! first wrong line, and what is found there. `C` is the end of a complete ledger, `I` that of an incomplete
 //! one and `P` that of one that ends within a line, `H` a wrong head, `O` a wrong order, `N` a missing
 //! newline, `X` a line that is too long, `M` one line more than are read, and `a` to `l` a wrong field.
-use crate::ledger_lines::reader::{ledger, outcome, pieces};
+use crate::ledger_lines::pieces;
+use crate::ledger_lines::reader::{ledger, outcome};
 use ledger_text::{FoundLine, LedgerReader, LedgerStop};
 use pcap_io::MemSource;
 use std::alloc::Global;

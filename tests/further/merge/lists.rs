@@ -5,7 +5,7 @@ use crate::merge::cores::{core_of, is_prefix};
 use crate::merge::cores::events::step;
 use crate::merge::numbers::Numbers;
 use afdx_frame::Network::{A, B, self};
-use ordered_merge::{Core, CoreSizes, Event};
+use specified::{Core, CoreSizes, Event};
 use std::alloc::AllocError;
 use std::process::Abort;
 use std::test::Fail;

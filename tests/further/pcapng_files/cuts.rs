@@ -4,7 +4,7 @@
 use pcap_io::{BadReason, Ending, HeaderFault, MemSource, Script, TapSource};
 use pcapng::{Choice, RecordingSource};
 use std::test::Fail;
-use super::{COMMENTED, CUSTOM, ETHERNET, LITTLE, PACKET, holds, joined};
+use super::worked::{COMMENTED, CUSTOM, ETHERNET, LITTLE, PACKET, holds, joined};
 use super::kinds::{FRAME, NONE, ONE, TWO, refuses};
 
 #[test]

@@ -6,7 +6,7 @@ use pcap_io::{BadReason, Ending, HeaderFault, OpenFault, Script, TapReader, fill
 use pcapng::{Choice, Interface, InterfaceName};
 use std::alloc::{AllocError, Global};
 use std::process::Abort;
-use super::{COMMENTED, CUSTOM, ETHERNET, LITTLE, PACKET, Wanted, holds, joined, source_of};
+use super::worked::{COMMENTED, CUSTOM, ETHERNET, LITTLE, PACKET, Wanted, holds, joined, source_of};
 
 /// A section header of 28 bytes, big-endian.
 const BIG: &[u8] = &[

@@ -156,7 +156,7 @@ fn end_of(ending: Ending) -> Result<End, Fail> {
         Ending::Cut(count) => End::Cut(count),
         Ending::Bad(count, BadReason::Length) => End::Length(count),
         Ending::Bad(count, BadReason::Fraction) => End::Fraction(count),
-        Ending::Bad(count, BadReason::StampBack) => End::StampBack(count),
+        Ending::Bad(count, BadReason::StampBack { by }) => End::StampBack(count, by),
         Ending::Bad(..) => return Err("a reason that no pcap file has".into()),
     })
 }

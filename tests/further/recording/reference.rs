@@ -20,7 +20,8 @@ pub enum End {
     Cut(u64),
     Length(u64),
     Fraction(u64),
-    StampBack(u64),
+    /// And by how many nanoseconds the stamp goes back.
+    StampBack(u64, u64),
 }
 
 /// How a recording writes its numbers.
@@ -106,7 +107,7 @@ fn next_record(
     }
     let stamp = seconds.wrapping_mul(SECOND).wrapping_add(fraction);
     if stamp < high {
-        return Err(End::StampBack(count));
+        return Err(End::StampBack(count, high.wrapping_sub(stamp)));
     }
     let body = &rest[16..];
     let captured = claimed as usize;

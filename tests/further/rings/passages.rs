@@ -91,7 +91,8 @@ fn an_ending_at_the_end_of_a_batch(rt: HostRuntime) -> Result<(), Fail> {
         // A packet that was read ahead with the frames before it ends the recording.
         stamps.push(0)?;
         let bytes = recording(rt.alloc(), &stamps, 60)?;
-        let ending = Ending::Bad(u64::from(count), BadReason::StampBack);
+        let by = u64::from(count);
+        let ending = Ending::Bad(by, BadReason::StampBack { by });
         passes(&rt, &bytes, 0, ending)?;
     }
     Ok(())
@@ -114,8 +115,8 @@ fn a_cut_recording(rt: HostRuntime) -> Result<(), Fail> {
 #[test]
 fn a_bad_recording(rt: HostRuntime) -> Result<(), Fail> {
     let bytes = recording(rt.alloc(), &[1000, 2000, 1500, 999], 60)?;
-    passes(&rt, &bytes, 0, Ending::Bad(2, BadReason::StampBack))?;
-    passes(&rt, &bytes, 500, Ending::Bad(3, BadReason::StampBack))?;
+    passes(&rt, &bytes, 0, Ending::Bad(2, BadReason::StampBack { by: 500 }))?;
+    passes(&rt, &bytes, 500, Ending::Bad(3, BadReason::StampBack { by: 1001 }))?;
     passes(&rt, &bytes, 1001, Ending::Clean(4))
 }
 

@@ -80,7 +80,7 @@ const ROWS: [Row; 10] = [
     (
         &[(NANO_BIG, WHOLE), (TOO_LONG, WHOLE), (MICRO_BIG, WHOLE)],
         &[2_000_000_005],
-        Ending::Bad(1, BadReason::StampBack),
+        Ending::Bad(1, BadReason::StampBack { by: 1_000_000_000 }),
         1,
     ),
     (

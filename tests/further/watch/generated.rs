@@ -170,7 +170,7 @@ fn kind_of(ending: Ending) -> usize {
         Ending::Cut(_) => 1,
         Ending::Bad(_, BadReason::Length) => 2,
         Ending::Bad(_, BadReason::Fraction) => 3,
-        Ending::Bad(_, BadReason::StampBack) => 4,
+        Ending::Bad(_, BadReason::StampBack { .. }) => 4,
         Ending::Bad(..) => 5,
     }
 }

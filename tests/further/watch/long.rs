@@ -84,7 +84,8 @@ fn taps_of_different_lengths(rt: HostRuntime) -> Result<(), Fail> {
     let few = recording(rt.alloc(), &[(10, 1), (2500, 2), (2500, 3)])?;
     let bad = bad_at_second(rt.alloc())?;
     beside_many(&rt, &many, &few, Ending::Clean(3))?;
-    beside_many(&rt, &many, &bad, Ending::Bad(1, BadReason::StampBack))?;
+    let back = Ending::Bad(1, BadReason::StampBack { by: 1 });
+    beside_many(&rt, &many, &bad, back)?;
     beside_many(&rt, &many, &HEADER, Ending::Clean(0))
 }
 

@@ -1,13 +1,40 @@
-//! Generated rounds by one to eight workers, and large frames.
+//! Generated rounds, and large frames.
 
-use crate::support::{EVERY, ONE_LINK, frame};
-use crate::workers::{Open, filtered, programs_of, tap_frame};
+use crate::support::{EVERY, ONE_LINK, frame, loaded};
+use afdx_frame::{Network, Stamp, TapFrame};
 use bpf_loader::Program;
 use bpf_machine::run;
 use filter_workers::Decision;
 use frame_batch::Round;
+use specified::filter_round;
 use std::alloc::{AllocError, Global};
+use std::process::Abort;
 use std::test::Fail;
+
+/// A frame of network A that is captured whole.
+pub(crate) fn tap_frame(number: u64, bytes: Vec<u8>) -> Option<TapFrame> {
+    let whole = u32::try_from(bytes.len()).ok()?;
+    TapFrame::new(Network::A, number, Stamp(number), whole, bytes).ok()
+}
+
+/// The programs of texts in the numeric form.
+pub(crate) fn programs_of(alloc: Global, texts: &[&str]) -> Result<Vec<Program>, Fail> {
+    let mut programs = Vec::new(alloc);
+    for text in texts {
+        programs.push(loaded(alloc, text)?)?;
+    }
+    Ok(programs)
+}
+
+/// Filters a round.
+pub(crate) fn filtered(
+    rt: &(impl Abort + AllocGlobal),
+    programs: &[Program],
+    frames: &Round,
+) -> Result<Vec<Decision>, AllocError> {
+    assert!(rt; programs.len() <= 8);
+    filter_round(rt.alloc(), programs, frames)
+}
 
 /// `ldb [59]`, `ret a`.
 const SEQUENCE: &str = "2,48 0 0 59,22 0 0 0,";
@@ -74,15 +101,8 @@ fn generated_rounds(rt: HostRuntime) -> Result<(), Fail> {
         let frames = round_of(alloc, count).ok_or("no frames")?;
         for programs in [&one, &three, &eight] {
             let expected = one_by_one(alloc, programs, &frames)?;
-            for workers in [1, 2, 3, 8] {
-                let decisions = filtered(&rt, programs, &frames, workers, &Open).map_err(
-                    |_| "no decisions",
-                )?;
-                assert!(rt;
-                    decisions.as_slice() == expected.as_slice(),
-                    "{count} frames, {workers} workers"
-                );
-            }
+            let decisions = filtered(&rt, programs, &frames)?;
+            assert!(rt; decisions.as_slice() == expected.as_slice(), "{count} frames");
         }
     }
     Ok(())
@@ -101,7 +121,7 @@ fn large_frames(rt: HostRuntime) -> Result<(), Fail> {
         mask: 1,
         answer: 262_084,
     };
-    let decisions = filtered(&rt, &programs, &frames, 3, &Open).map_err(|_| "no decisions")?;
+    let decisions = filtered(&rt, &programs, &frames)?;
     assert!(rt; decisions.as_slice() == [expected; 6].as_slice());
     Ok(())
 }

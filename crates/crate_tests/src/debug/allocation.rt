@@ -3,8 +3,8 @@
 
 use crate::ending::is_one_of;
 use crate::support::{FIRST_RUN, SOUND};
-use analyser::{Ran, debug_over};
 use pcap_io::{MemSink, MemSource, Script};
+use specified::{Ran, debug_over};
 use std::process::Abort;
 
 const START: &str = "at 0 pc 0 A 0 X 0 M 0 0 0 0 0 0 0 0 0 0 0 0 0 0 0 0\n";

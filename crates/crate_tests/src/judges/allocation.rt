@@ -9,10 +9,8 @@ use crate::judges::rounds::{judged, last_of, says_of_two_links, two_links};
 use crate::support::TABLE;
 use afdx_frame::VlId;
 use std::process::Abort;
-use std::sync::Wait;
-use std::thread::Threads;
 use vl_config::{Config, ConfigFault};
-use vl_judge::{LaneFault, Lanes};
+use vl_judge::Lanes;
 
 /// Reads a table. Returns whether there was the memory, as the next one.
 fn reads_a_table(rt: &(impl Abort + AllocGlobal)) -> bool {
@@ -43,28 +41,23 @@ fn makes_lanes(rt: &(impl Abort + AllocGlobal)) -> bool {
     }
 }
 
-/// Judges a round by so many workers.
-fn judges_a_round<R: Threads + Wait + Sync + Abort + AllocGlobal>(rt: &R, workers: u32) -> bool {
+/// Judges a round.
+fn judges_a_round(rt: &(impl Abort + AllocGlobal)) -> bool {
     let Ok(config) = Config::read(rt.alloc(), TWO_LINKS) else {
         return false;
     };
-    let Ok(lanes) = Lanes::new(rt.alloc(), &config) else {
+    let Ok(mut lanes) = Lanes::new(rt.alloc(), &config) else {
         return false;
     };
     let Some(round) = two_links(rt.alloc()) else {
         return false;
     };
-    match judged(rt, lanes, &round, workers) {
-        Ok((lanes, said)) => {
-            says_of_two_links(rt, &said);
-            assert!(rt; lanes.last() == last_of(&round));
-            true
-        }
-        Err(fault) => {
-            assert!(rt; fault == LaneFault::Memory || workers > 1);
-            false
-        }
-    }
+    let Ok(said) = judged(rt, &mut lanes, &round) else {
+        return false;
+    };
+    says_of_two_links(rt, &said);
+    assert!(rt; lanes.last() == last_of(&round));
+    true
 }
 
 #[test]
@@ -88,21 +81,11 @@ fn ample_for_making_lanes(rt: HostRuntime) {
 }
 
 #[test]
-fn refusal_in_a_round_by_one(rt: HostRuntime) {
-    judges_a_round(&rt, 1);
+fn refusal_in_a_round(rt: HostRuntime) {
+    judges_a_round(&rt);
 }
 
 #[test]
-fn ample_for_a_round_by_one(rt: HostRuntime) {
-    assert!(rt; judges_a_round(&rt, 1));
-}
-
-#[test]
-fn refusal_in_a_round_by_two(rt: HostRuntime) {
-    judges_a_round(&rt, 2);
-}
-
-#[test]
-fn ample_for_a_round_by_two(rt: HostRuntime) {
-    assert!(rt; judges_a_round(&rt, 2));
+fn ample_for_a_round(rt: HostRuntime) {
+    assert!(rt; judges_a_round(&rt));
 }

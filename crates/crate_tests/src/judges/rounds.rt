@@ -1,4 +1,4 @@
-//! Rounds of frames, judged by some threads.
+//! Rounds of frames, judged.
 ghost use Rattle.std.specs.Prelude.{◌≡◌, true};
 ghost use Rattle.vl_judge.specs.Lanes.{FollowsOn};
 
@@ -9,13 +9,11 @@ use frame_batch::Round;
 use integrity::Integrity;
 use policing::Policing;
 use redundancy::Redundancy;
-use std::alloc::Global;
+use std::alloc::{AllocError, Global};
 use std::process::Abort;
-use std::sync::Wait;
 use std::test::Fail;
-use std::thread::Threads;
 use vl_config::{Class, Config};
-use vl_judge::{LaneFault, Lanes, Verdict};
+use vl_judge::{Lanes, Verdict};
 
 /// Says whether the keys of a round rise, from above the last one on.
 fn follows(last: Option<Key>, round: &Round) -> bool
@@ -41,15 +39,13 @@ pub(super) fn last_of(round: &Round) -> Option<Key> {
 }
 
 /// Judges a round that follows on all that the lanes have judged.
-pub(super) fn judged<R: Threads + Wait + Sync + Abort>(
-    rt: &R,
-    lanes: Lanes,
+pub(super) fn judged(
+    rt: &impl Abort,
+    lanes: &mut Lanes,
     round: &Round,
-    workers: u32,
-) -> Result<(Lanes, Vec<Verdict>), LaneFault> {
-    assert!(rt; workers >= 1 && workers <= 8);
+) -> Result<Vec<Verdict>, AllocError> {
     assert!(rt; follows(lanes.last(), round));
-    lanes.judge_round(rt, round, workers)
+    lanes.judge_frames(round)
 }
 
 /// A round of two links on network A.
@@ -115,19 +111,18 @@ pub(super) fn says_of_two_links(rt: &impl Abort, said: &[Verdict]) {
 }
 
 /// Judges that round as two, of which the first has so many frames.
-fn in_two_rounds<R: Threads + Wait + Sync + Abort + AllocGlobal>(
-    rt: &R,
-    lanes: Lanes,
+fn in_two_rounds(
+    rt: &(impl Abort + AllocGlobal),
+    mut lanes: Lanes,
     cut: usize,
-    workers: u32,
 ) -> Result<(), Fail> {
     let (first, second) = FRAMES.split_at(FRAMES.len().min(cut));
     let first = round_of(rt.alloc(), first).ok_or("no round")?;
-    let (lanes, mut said) = judged(rt, lanes, &first, workers)?;
+    let mut said = judged(rt, &mut lanes, &first)?;
     assert!(rt; said.len() == first.len());
     assert!(rt; lanes.last() == last_of(&first));
     let second = round_of(rt.alloc(), second).ok_or("no round")?;
-    let (lanes, more) = judged(rt, lanes, &second, workers)?;
+    let more = judged(rt, &mut lanes, &second)?;
     said.extend_from_slice(&more)?;
     says_of_two_links(rt, &said);
     let both = two_links(rt.alloc()).ok_or("no round")?;
@@ -138,11 +133,9 @@ fn in_two_rounds<R: Threads + Wait + Sync + Abort + AllocGlobal>(
 #[test]
 fn two_links_in_lanes(rt: HostRuntime) -> Result<(), Fail> {
     let config = Config::read(rt.alloc(), TWO_LINKS)?;
-    for workers in [1, 2, 8] {
-        for cut in [0, 2, 4] {
-            let lanes = Lanes::new(rt.alloc(), &config)?;
-            in_two_rounds(&rt, lanes, cut, workers)?;
-        }
+    for cut in [0, 2, 4] {
+        let lanes = Lanes::new(rt.alloc(), &config)?;
+        in_two_rounds(&rt, lanes, cut)?;
     }
     Ok(())
 }

@@ -3,7 +3,7 @@
 //! The script `tests/allocations` has each allocation in it fail in turn. A test `refusal_..` then
 //! passes by either answer, and a test `ample_..` by the right one alone.
 
-use crate::ledger_lines::reader::pieces;
+use crate::ledger_lines::pieces;
 use ledger_text::{FoundLine, LedgerReader};
 use pcap_io::{MemSource, TapSource};
 use std::process::Abort;

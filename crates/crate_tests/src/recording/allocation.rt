@@ -4,8 +4,7 @@
 //! The script `tests/allocations` has each allocation in them fail in turn. A test `refusal_..` then
 //! passes by either answer, and a test `ample_..` by the right one alone.
 
-use crate::recording::writer::frame_of_two;
-use crate::recording::{opened, push_packet};
+use crate::recording::{frame_of_two, opened, push_packet};
 use crate::support::{HEADER, SOUND, frame};
 use afdx_frame::{FrameBytes, Network, Stamp, TapFrame};
 use pcap_io::{Ending, Item, MemSource, ReadFault, TapReader, append_packet};

@@ -4,8 +4,7 @@
 //! then passes by either answer, and a test `ample_..` by the right one alone.
 
 use crate::recording::opened;
-use crate::rings::endings::fed_ring;
-use crate::rings::{Taken, recording, take_most};
+use crate::rings::{Taken, fed_ring, recording, take_most};
 use crate::support::SOUND;
 use afdx_frame::Network;
 use pcap_io::{Ending, MemSource, ReadFault};

@@ -147,7 +147,7 @@ filter_is_counts filter accepted few count =
 reason_part : (r : BadReason) → IsPart 20 (reason_word r)
 reason_part reason.Length = word_part 20 _ refl refl
 reason_part reason.Fraction = word_part 20 _ refl refl
-reason_part reason.StampBack = word_part 20 _ refl refl
+reason_part (reason.StampBack by) = word_part 20 _ refl refl
 reason_part reason.TooMany = word_part 20 _ refl refl
 reason_part reason.BlockLength = word_part 20 _ refl refl
 reason_part reason.BlockLengthsDiffer = word_part 20 _ refl refl

@@ -1,7 +1,7 @@
 //! Events of which some can't happen.
 
 use afdx_frame::Network::{A, B};
-use ordered_merge::{Core, Event};
+use specified::{Core, Event};
 use std::alloc::AllocError;
 use super::{AMPLE, Digits, core_of, is_prefix};
 

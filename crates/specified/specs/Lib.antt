@@ -1,0 +1,4 @@
+pub mod Events
+pub mod Filters
+pub mod Recording
+pub mod Whole
