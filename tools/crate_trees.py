@@ -4,11 +4,11 @@ An rt keeps others out of all crates below its own, so crates that share one bel
 own a crate has its files, and those of the crates below with what was built of them: links to the same files.
 """
 
-import hashlib
 import os
 import pathlib
 import re
 import shutil
+import subprocess
 
 TOP = pathlib.Path(__file__).resolve().parent.parent
 PARTS = ("src", "specs", "proofs")
@@ -50,13 +50,8 @@ class Program(Crates):
         self.names = sorted({"afdxmon", *self.below("afdxmon")})
 
     def sources(self):
-        """A sum of all that the program is made of: its lines of crates.txt, and the files of its crates."""
-        found = hashlib.sha256()
-        for name in self.names:
-            found.update(self.lines[name].encode())
-            for file in self.files(name):
-                found.update(f"{file.relative_to(TOP)}\0".encode() + file.read_bytes() + b"\0")
-        return found.hexdigest()
+        """A sum of all that the program is made of."""
+        return subprocess.run([TOP / "tools" / "sources"], capture_output=True, check=True, text=True).stdout.strip()
 
 
 def plant(crates, name, trees):

@@ -1,4 +1,1 @@
-pub mod Building
-mod Found
-pub mod Given
-pub mod Refusing
+pub mod Numerals

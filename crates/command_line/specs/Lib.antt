@@ -1,10 +1,3 @@
-pub mod Arguments
-pub mod Caret
-pub mod Exit
-pub mod Files
-pub mod Line
+pub mod Lateness
 pub mod Moment
-pub mod Options
-pub mod Place
-pub mod Refused
-pub mod Summary
+pub mod Numbers

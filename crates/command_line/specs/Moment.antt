@@ -6,7 +6,7 @@ use Rattle.std.specs.Str.{bytes_eq}
 use Rattle.std.specs.Result.{result_ok}
 use Rattle.clap.specs.Words.{Text}
 use Rattle.jiff_fmt.specs.Temporal.{TimeParts, parse_time, parse_timestamp}
-use Rattle.command_line.specs.Arguments.{number_in}
+use Rattle.command_line.specs.Numbers.{number_in}
 use Rattle.command_line.specs.declared.moment.MomentText.{MomentText}
 use Rattle.command_line.specs.declared.moment.MomentText.TheVariants as moment
 use Rattle.command_line.specs.declared.moment.Unit.{Unit}

@@ -1,9 +1,4 @@
 //! The command-line arguments: what a command line asks for, read from what clap found.
-ghost use Rattle.std.specs.Prelude.{◌≡◌, [], true, codes, map, IfOk, IfErr, option_map, string_bytes, Ok};
-ghost use Rattle.clap.specs.Words.{FailsBy, first_of, found_of, kind_of, rows_of, subcommand_rows_of, takes};
-ghost use Rattle.clap.specs.declared.error.kind.ErrorKind.TheVariants.{OutOfMemory};
-ghost use Rattle.command_line.specs.Arguments.{capture_in, capture_words, check_in, check_words, checked, checked_cut, checked_links, command_named, cut_in, cut_words, debug_in, debug_words, filter_in, filter_words, flag_at, is_network, kinds_asked, late_in, links_in, line_with, links_words, mapped, meant_asked, meant_by, meant_for, meant_if, meant_in, meant_line, misuse_kind, misuse_kinds, number_at, one_filter, report_in, report_words, text_of, watch_in, watch_words};
-ghost use Rattle.command_line.specs.Options.{afdxmon_app};
 
 use crate::lateness::{Lateness, read_lateness};
 use crate::misuse::Misuse;
@@ -191,83 +186,23 @@ pub struct CheckArguments<'a> {
     pub json: bool,
 }
 
-/// A command of the program.
-#[derive(Clone, Copy)]
-enum Verb {
-    Capture,
-    Asm,
-    Watch,
-    Debug,
-    Cut,
-    Links,
-    Report,
-    Check,
-}
-
-/// The command of a name.
-fn command_named(name: &str) -> Option<Verb>
-    ensures { result ≡ command_named name.now }
-{
-    if name == "capture" {
-        Some(Verb::Capture)
-    } else if name == "asm" {
-        Some(Verb::Asm)
-    } else if name == "watch" {
-        Some(Verb::Watch)
-    } else if name == "debug" {
-        Some(Verb::Debug)
-    } else if name == "cut" {
-        Some(Verb::Cut)
-    } else if name == "links" {
-        Some(Verb::Links)
-    } else if name == "report" {
-        Some(Verb::Report)
-    } else if name == "check" {
-        Some(Verb::Check)
-    } else {
-        None
-    }
-}
-
-/// The text of an argument, if it has one.
-fn text<'a>(given: &ArgMatches<'a>, name: &str) -> Option<&'a str>
-    ensures { option_map text_of result ≡ first_of name.now (rows_of (found_of given.now)) }
-{
-    given.get_str(name)
+/// The text of an argument that clap requires or has a default for.
+fn needed<'a>(given: &ArgMatches<'a>, name: &str) -> Result<&'a str, Misuse> {
+    given.get_str(name).ok_or(Misuse::Incomplete)
 }
 
 /// Whether a flag is given.
-fn flag(given: &ArgMatches<'_>, name: &str) -> Option<bool>
-    ensures { result ≡ flag_at name.now (rows_of (found_of given.now)) }
-{
-    given.get_one(name)
-}
-
-/// The number of 8 bits of an argument.
-fn number8(given: &ArgMatches<'_>, name: &str) -> Option<u8>
-    ensures { result ≡ number_at 8 name.now (rows_of (found_of given.now)) }
-{
-    given.get_one(name)
-}
-
-/// The number of 16 bits of an argument.
-fn number16(given: &ArgMatches<'_>, name: &str) -> Option<u16>
-    ensures { result ≡ number_at 16 name.now (rows_of (found_of given.now)) }
-{
-    given.get_one(name)
+fn flag(given: &ArgMatches<'_>, name: &str) -> Result<bool, Misuse> {
+    given.get_one(name).ok_or(Misuse::Incomplete)
 }
 
 /// The one filter that is given by its text, as a file in the numeric form or as a source.
-fn one_filter<'a>(
-    code: Option<&'a str>,
-    filter: Option<&'a str>,
-    source: Option<&'a str>,
-) -> Result<FilterArgument<'a>, Misuse>
-    ensures { mapped filter_words result ≡ one_filter
-        (option_map text_of code.entry) (option_map text_of filter.entry)
-        (option_map text_of source.entry) }
-{
-    match (code, filter, source) {
+fn filter_argument<'a>(given: &ArgMatches<'a>) -> Result<FilterArgument<'a>, Misuse> {
+    match (
+        given.get_str("code"),
+        given.get_str("filter"),
+        given.get_str("source"),
+    ) {
         (Some(code), None, None) => Ok(FilterArgument::Code(code)),
         (None, Some(path), None) => Ok(FilterArgument::Numeric(path)),
         (None, None, Some(path)) => Ok(FilterArgument::Source(path)),
@@ -276,22 +211,9 @@ fn one_filter<'a>(
     }
 }
 
-/// The filter that is given to a command, of which each has as many of the options as it takes.
-fn filter_argument<'a>(given: &ArgMatches<'a>) -> Result<FilterArgument<'a>, Misuse>
-    ensures { mapped filter_words result ≡ filter_in (rows_of (found_of given.now)) }
-{
-    one_filter(
-        text(given, "code"),
-        text(given, "filter"),
-        text(given, "source"),
-    )
-}
-
 /// How late a timestamp may be, if it is given.
-fn lateness(given: &ArgMatches<'_>) -> Result<Option<Lateness>, Misuse>
-    ensures { result ≡ late_in (rows_of (found_of given.now)) }
-{
-    match text(given, "late-us") {
+fn lateness(given: &ArgMatches<'_>) -> Result<Option<Lateness>, Misuse> {
+    match given.get_str("late-us") {
         Some(text) => match read_lateness(text) {
             Some(late) => Ok(Some(late)),
             None => Err(Misuse::NoLateness),
@@ -301,54 +223,40 @@ fn lateness(given: &ArgMatches<'_>) -> Result<Option<Lateness>, Misuse>
 }
 
 /// What the arguments of `capture` give.
-fn capture_arguments<'a>(
-    given: &ArgMatches<'a>,
-    late: Option<Lateness>,
-) -> Result<CaptureArguments<'a>, Misuse>
-    ensures { mapped capture_words result ≡ capture_in (rows_of (found_of given.now)) late }
-{
-    let filter = filter_argument(given)?;
-    match (
-        text(given, "recording"),
-        text(given, "output"),
-        flag(given, "pcapng"),
-    ) {
-        (Some(recording), Some(output), Some(pcapng)) => Ok(CaptureArguments {
-            filter,
-            recording,
-            output,
-            pcapng,
-            late,
-        }),
-        _ => Err(Misuse::Incomplete),
-    }
-}
-
-/// What the options of `watch` give.
-fn watch_arguments<'a>(given: &ArgMatches<'a>, late: Option<Lateness>) -> Option<WatchArguments<'a>>
-    ensures { option_map watch_words result ≡ watch_in (rows_of (found_of given.now)) late }
-{
-    Some(WatchArguments {
-        config: text(given, "config")?,
-        filter: text(given, "filter"),
-        a: text(given, "a"),
-        b: text(given, "b"),
-        capture: text(given, "capture"),
-        ledger: text(given, "ledger")?,
-        manifest: text(given, "manifest"),
-        digest: flag(given, "digest")?,
-        workers: number8(given, "workers")?,
-        quiet: flag(given, "quiet")?,
+fn capture_arguments<'a>(given: &ArgMatches<'a>) -> Result<CaptureArguments<'a>, Misuse> {
+    let late = lateness(given)?;
+    Ok(CaptureArguments {
+        filter: filter_argument(given)?,
+        recording: needed(given, "recording")?,
+        output: needed(given, "output")?,
         pcapng: flag(given, "pcapng")?,
         late,
     })
 }
 
+/// What the options of `watch` give.
+fn watch_arguments<'a>(given: &ArgMatches<'a>) -> Result<WatchArguments<'a>, Misuse> {
+    let watch = WatchArguments {
+        late: lateness(given)?,
+        config: needed(given, "config")?,
+        filter: given.get_str("filter"),
+        a: given.get_str("a"),
+        b: given.get_str("b"),
+        capture: given.get_str("capture"),
+        ledger: needed(given, "ledger")?,
+        manifest: given.get_str("manifest"),
+        digest: flag(given, "digest")?,
+        workers: given.get_one("workers").ok_or(Misuse::Incomplete)?,
+        quiet: flag(given, "quiet")?,
+        pcapng: flag(given, "pcapng")?,
+    };
+    check_watch(&watch)?;
+    Ok(watch)
+}
+
 /// Refuses a run without a recording, one that writes a capture without a filter, a format of a capture that
 /// isn't written, digests for a manifest that isn't, and timestamps in any order.
-fn checked(given: WatchArguments<'_>) -> Result<WatchArguments<'_>, Misuse>
-    ensures { mapped watch_words result ≡ checked (watch_words given.entry) }
-{
+fn check_watch(given: &WatchArguments<'_>) -> Result<(), Misuse> {
     if given.a.is_none() && given.b.is_none() {
         return Err(Misuse::NoRecording);
     }
@@ -364,58 +272,45 @@ fn checked(given: WatchArguments<'_>) -> Result<WatchArguments<'_>, Misuse>
     if matches!(given.late, Some(Lateness::Any)) {
         return Err(Misuse::Unordered);
     }
-    Ok(given)
+    Ok(())
 }
 
 /// What the options of `debug` give.
-fn debug_arguments<'a>(
-    given: &ArgMatches<'a>,
-    late: Option<Lateness>,
-) -> Result<DebugArguments<'a>, Misuse>
-    ensures { mapped debug_words result ≡ debug_in (rows_of (found_of given.now)) late }
-{
-    let filter = filter_argument(given)?;
-    match text(given, "tap") {
-        Some(tap) => Ok(DebugArguments { filter, tap, late }),
-        None => Err(Misuse::Incomplete),
-    }
-}
-
-/// What the options of `cut` give.
-fn cut_arguments<'a>(options: &ArgMatches<'a>) -> Option<CutArguments<'a>>
-    ensures { option_map cut_words result ≡ cut_in (rows_of (found_of options.now)) }
-{
-    Some(CutArguments {
-        ledger: text(options, "ledger")?,
-        a: text(options, "a"),
-        b: text(options, "b"),
-        config: text(options, "config"),
-        link: text(options, "link"),
-        network: text(options, "network"),
-        verdict: text(options, "verdict"),
-        from: text(options, "from"),
-        to: text(options, "to"),
-        span: text(options, "span"),
-        filters: text(options, "filters"),
-        around: number16(options, "around")?,
-        ledger_only: flag(options, "ledger-only")?,
-        pcapng: flag(options, "pcapng")?,
-        output: text(options, "output")?,
+fn debug_arguments<'a>(given: &ArgMatches<'a>) -> Result<DebugArguments<'a>, Misuse> {
+    let late = lateness(given)?;
+    Ok(DebugArguments {
+        filter: filter_argument(given)?,
+        tap: needed(given, "tap")?,
+        late,
     })
 }
 
-/// Is the text a network's letter?
-fn is_network(text: &str) -> bool
-    ensures { result ≡ is_network text.now }
-{
-    text == "A" || text == "B"
+/// What the options of `cut` give.
+fn cut_arguments<'a>(given: &ArgMatches<'a>) -> Result<CutArguments<'a>, Misuse> {
+    let cut = CutArguments {
+        ledger: needed(given, "ledger")?,
+        a: given.get_str("a"),
+        b: given.get_str("b"),
+        config: given.get_str("config"),
+        link: given.get_str("link"),
+        network: given.get_str("network"),
+        verdict: given.get_str("verdict"),
+        from: given.get_str("from"),
+        to: given.get_str("to"),
+        span: given.get_str("span"),
+        filters: given.get_str("filters"),
+        around: given.get_one("around").ok_or(Misuse::Incomplete)?,
+        ledger_only: flag(given, "ledger-only")?,
+        pcapng: flag(given, "pcapng")?,
+        output: needed(given, "output")?,
+    };
+    check_cut(&cut)?;
+    Ok(cut)
 }
 
 /// Refuses packets without a recording, a format of packets where none are written, two ends of a span, and a
 /// network that is neither A nor B.
-fn checked_cut(given: CutArguments<'_>) -> Result<CutArguments<'_>, Misuse>
-    ensures { mapped cut_words result ≡ checked_cut (cut_words given.entry) }
-{
+fn check_cut(given: &CutArguments<'_>) -> Result<(), Misuse> {
     if !given.ledger_only && given.a.is_none() && given.b.is_none() {
         return Err(Misuse::NoRecording);
     }
@@ -426,111 +321,75 @@ fn checked_cut(given: CutArguments<'_>) -> Result<CutArguments<'_>, Misuse>
         return Err(Misuse::TwoEnds);
     }
     match given.network {
-        Some(network) if !is_network(network) => Err(Misuse::NoNetwork),
-        _ => Ok(given),
+        Some("A" | "B") | None => Ok(()),
+        Some(_) => Err(Misuse::NoNetwork),
     }
 }
 
-/// What the options of `links` give.
-fn links_arguments<'a>(given: &ArgMatches<'a>) -> LinksArguments<'a>
-    ensures { links_words result ≡ links_in (rows_of (found_of given.now)) }
-{
-    LinksArguments {
-        a: text(given, "a"),
-        b: text(given, "b"),
-        constant: text(given, "constant"),
-        icd: text(given, "icd"),
-    }
-}
-
-/// Refuses a draft of no recording and no document.
-fn checked_links(given: LinksArguments<'_>) -> Result<LinksArguments<'_>, Misuse>
-    ensures { mapped links_words result ≡ checked_links (links_words given.entry) }
-{
-    if given.a.is_none() && given.b.is_none() && given.icd.is_none() {
+/// What the options of `links` give: a recording or a document, or both.
+fn links_arguments<'a>(given: &ArgMatches<'a>) -> Result<LinksArguments<'a>, Misuse> {
+    let links = LinksArguments {
+        a: given.get_str("a"),
+        b: given.get_str("b"),
+        constant: given.get_str("constant"),
+        icd: given.get_str("icd"),
+    };
+    if links.a.is_none() && links.b.is_none() && links.icd.is_none() {
         return Err(Misuse::NoLinks);
     }
-    Ok(given)
+    Ok(links)
 }
 
 /// What the options of `report` give.
-fn report_arguments<'a>(given: &ArgMatches<'a>) -> Option<ReportArguments<'a>>
-    ensures { option_map report_words result ≡ report_in (rows_of (found_of given.now)) }
-{
-    Some(ReportArguments {
-        config: text(given, "config")?,
-        ledger: text(given, "ledger")?,
-        manifest: text(given, "manifest"),
-        baseline: text(given, "baseline"),
+fn report_arguments<'a>(given: &ArgMatches<'a>) -> Result<ReportArguments<'a>, Misuse> {
+    Ok(ReportArguments {
+        config: needed(given, "config")?,
+        ledger: needed(given, "ledger")?,
+        manifest: given.get_str("manifest"),
+        baseline: given.get_str("baseline"),
         json: flag(given, "json")?,
-        output: text(given, "output")?,
+        output: needed(given, "output")?,
     })
 }
 
 /// What the options of `check` give.
-fn check_arguments<'a>(given: &ArgMatches<'a>) -> Option<CheckArguments<'a>>
-    ensures { option_map check_words result ≡ check_in (rows_of (found_of given.now)) }
-{
-    Some(CheckArguments {
-        config: text(given, "config")?,
-        filter: text(given, "filter"),
-        a: text(given, "a"),
-        b: text(given, "b"),
+fn check_arguments<'a>(given: &ArgMatches<'a>) -> Result<CheckArguments<'a>, Misuse> {
+    Ok(CheckArguments {
+        config: needed(given, "config")?,
+        filter: given.get_str("filter"),
+        a: given.get_str("a"),
+        b: given.get_str("b"),
         whole: flag(given, "whole")?,
         json: flag(given, "json")?,
     })
 }
 
-/// What the arguments of a command ask for.
-fn invocation_of<'a>(verb: Verb, given: &ArgMatches<'a>) -> Result<Invocation<'a>, Misuse>
-    ensures { mapped meant_by result ≡ meant_for verb (rows_of (found_of given.now)) }
-{
-    match verb {
-        Verb::Capture => Ok(Invocation::Capture(capture_arguments(given, lateness(given)?)?)),
-        Verb::Asm => Ok(Invocation::Asm),
-        Verb::Watch => Ok(Invocation::Watch(checked(watch_arguments(given, lateness(given)?).ok_or(
-            Misuse::Incomplete,
-        )?)?)),
-        Verb::Debug => Ok(Invocation::Debug(debug_arguments(given, lateness(given)?)?)),
-        Verb::Cut => Ok(Invocation::Cut(checked_cut(cut_arguments(given).ok_or(
-            Misuse::Incomplete,
-        )?)?)),
-        Verb::Links => Ok(Invocation::Links(checked_links(links_arguments(given))?)),
-        Verb::Report => Ok(Invocation::Report(report_arguments(given).ok_or(Misuse::Incomplete)?)),
-        Verb::Check => Ok(Invocation::Check(check_arguments(given).ok_or(Misuse::Incomplete)?)),
-    }
-}
-
 /// What a command of a name and its arguments ask for.
-fn named_line<'a>(name: &str, given: &ArgMatches<'a>) -> Result<CommandLine<'a>, Misuse>
-    ensures { mapped meant_line result ≡ line_with
-        (meant_if (command_named name.now) (rows_of (found_of given.now)))
-        (flag_at (codes "verbose") (rows_of (found_of given.now))) }
-{
-    let Some(verb) = command_named(name) else {
-        return Err(Misuse::Incomplete);
-    };
-    let command = invocation_of(verb, given)?;
-    match flag(given, "verbose") {
-        Some(verbose) => Ok(CommandLine { command, verbose }),
-        None => Err(Misuse::Incomplete),
+fn invocation_of<'a>(name: &str, given: &ArgMatches<'a>) -> Result<Invocation<'a>, Misuse> {
+    match name {
+        "capture" => Ok(Invocation::Capture(capture_arguments(given)?)),
+        "asm" => Ok(Invocation::Asm),
+        "watch" => Ok(Invocation::Watch(watch_arguments(given)?)),
+        "debug" => Ok(Invocation::Debug(debug_arguments(given)?)),
+        "cut" => Ok(Invocation::Cut(cut_arguments(given)?)),
+        "links" => Ok(Invocation::Links(links_arguments(given)?)),
+        "report" => Ok(Invocation::Report(report_arguments(given)?)),
+        "check" => Ok(Invocation::Check(check_arguments(given)?)),
+        _ => Err(Misuse::Incomplete),
     }
 }
 
 /// What the matches of a command line ask for.
-fn arguments_of<'a>(matches: &ArgMatches<'a>) -> Result<CommandLine<'a>, Misuse>
-    ensures { mapped meant_line result ≡ meant_in (subcommand_rows_of matches.now) }
-{
-    match matches.subcommand() {
-        Some((name, given)) => named_line(name, given),
-        None => Err(Misuse::Incomplete),
-    }
+fn arguments_of<'a>(matches: &ArgMatches<'a>) -> Result<CommandLine<'a>, Misuse> {
+    let (name, given) = matches.subcommand().ok_or(Misuse::Incomplete)?;
+    Ok(CommandLine {
+        command: invocation_of(name, given)?,
+        verbose: flag(given, "verbose")?,
+    })
 }
 
 /// The error of a command that refuses its arguments, with its usage.
-fn refusal(alloc: Global, command: Option<&str>, misuse: Misuse) -> Result<Error, AllocError>
-    ensures { IfOk result (λ e. kind_of e ≡ misuse_kind misuse) }
-{
+fn refusal(alloc: Global, command: Option<&str>, misuse: Misuse) -> Result<Error, AllocError> {
     named_command(alloc, command)?.error(misuse.kind(), misuse.message())
 }
 
@@ -540,16 +399,10 @@ fn refusal(alloc: Global, command: Option<&str>, misuse: Misuse) -> Result<Error
 ///
 /// clap's error if clap's rules or the command's own refuse the arguments, or out of memory. It prints as
 /// the text for the user. A request for help or for the version is one too.
-pub fn read_arguments<'a>(alloc: Global, arguments: &'a [String]) -> Result<CommandLine<'a>, Error>
-    ensures meant { IfOk result (λ found.
-        meant_asked (map string_bytes arguments.now) ≡ Ok (meant_line found)) }
-    // Ok where neither clap's rules nor the command's own find a fault; else an error of the kind that the
-    // first of them finds, or out of memory.
-    ensures kinds { FailsBy (kinds_asked (map string_bytes arguments.now)) result }
-    ensures refused { IfErr result (λ e.
-        takes afdxmon_app (map string_bytes arguments.now) ≡ true
-        → misuse_kinds (meant_asked (map string_bytes arguments.now)) ≡ [] → kind_of e ≡ OutOfMemory) }
-{
+pub fn read_arguments<'a>(
+    alloc: Global,
+    arguments: &'a [String],
+) -> Result<CommandLine<'a>, Error> {
     let command = whole_command(alloc)?;
     let matches = command.try_get_matches_from(arguments)?;
     match arguments_of(&matches) {

@@ -1,6 +1,4 @@
 //! How the program ends: its exit status, and what it tells standard error.
-ghost use Rattle.std.specs.Prelude.{◌≡◌};
-ghost use Rattle.command_line.specs.Exit.{cut_exit, exit_at, exit_of, session_exit, status_of, text_exit, watch_exit};
 
 use crate::fault::{Fault, FileOption};
 use crate::summary::Summary;
@@ -36,9 +34,7 @@ pub enum Exit {
 impl Exit {
     /// The end of a capture, from what it came to and whether its output was flushed. An output that
     /// can't be flushed is one that can't be written.
-    pub fn of_capture(outcome: Result<Ending, Fault>, flushed: bool) -> Exit
-        ensures { result ≡ exit_of outcome flushed }
-    {
+    pub fn of_capture(outcome: Result<Ending, Fault>, flushed: bool) -> Exit {
         match outcome {
             Err(fault) => Exit::Fault(fault),
             Ok(_) if !flushed => Exit::Fault(Fault::Watch(WatchFault::Write {
@@ -49,9 +45,7 @@ impl Exit {
     }
 
     /// The end of a command that read its one recording up to this ending.
-    fn at(ending: Ending) -> Exit
-        ensures { result ≡ exit_at ending }
-    {
+    fn at(ending: Ending) -> Exit {
         match ending {
             Ending::Clean(_) => Exit::Success,
             Ending::Cut(_) | Ending::Bad(..) => Exit::Note(ending),
@@ -64,9 +58,7 @@ impl Exit {
         outcome: Result<Summary, Fault>,
         capture_flushed: bool,
         ledger_flushed: bool,
-    ) -> Exit
-        ensures { result ≡ watch_exit outcome capture_flushed ledger_flushed }
-    {
+    ) -> Exit {
         let output = match outcome {
             Err(fault) => return Exit::Fault(fault),
             Ok(_) if !capture_flushed => Output::Capture,
@@ -77,9 +69,7 @@ impl Exit {
     }
 
     /// The end of a command that prints a text, from what it came to and whether its output was flushed.
-    pub fn of_text(outcome: Result<(), Fault>, flushed: bool) -> Exit
-        ensures { result ≡ text_exit outcome flushed }
-    {
+    pub fn of_text(outcome: Result<(), Fault>, flushed: bool) -> Exit {
         match outcome {
             Err(fault) => Exit::Fault(fault),
             Ok(()) if !flushed => Exit::Fault(Fault::File(FileOption::Standard)),
@@ -89,9 +79,7 @@ impl Exit {
 
     /// The end of a session of the debugger, from how its recording ended, what the session came to and
     /// whether its output was flushed.
-    pub fn of_session(ending: Ending, outcome: Result<(), Fault>, flushed: bool) -> Exit
-        ensures { result ≡ session_exit ending outcome flushed }
-    {
+    pub fn of_session(ending: Ending, outcome: Result<(), Fault>, flushed: bool) -> Exit {
         match Exit::of_text(outcome, flushed) {
             Exit::Success => Exit::at(ending),
             exit => exit,
@@ -100,9 +88,7 @@ impl Exit {
 
     /// The end of a cut, from what it came to and whether its output was flushed. An output that can't be
     /// flushed is one that can't be written.
-    pub fn of_cut(outcome: Result<CutEnding, Fault>, flushed: bool) -> Exit
-        ensures { result ≡ cut_exit outcome flushed }
-    {
+    pub fn of_cut(outcome: Result<CutEnding, Fault>, flushed: bool) -> Exit {
         match outcome {
             Err(fault) => Exit::Fault(fault),
             Ok(_) if !flushed => Exit::Fault(Fault::Cut(CutFault::Write)),
@@ -112,9 +98,7 @@ impl Exit {
     }
 
     /// The program's exit status.
-    pub fn status(&self) -> u8
-        ensures { result ≡ status_of self.now }
-    {
+    pub fn status(&self) -> u8 {
         match self {
             Exit::Success | Exit::Note(_) | Exit::Watched(_) | Exit::WithoutTotal(_) => 0,
             Exit::Fault(_) => 1,

@@ -1,6 +1,4 @@
 //! The files that a command is given: which of them are standard input or output, and which two are one.
-ghost use Rattle.std.specs.Prelude.{◌≡◌, [], ◌∷◌, false, true, find};
-ghost use Rattle.command_line.specs.Files.{files_of, filter_file, file_at, is_one_file, is_standard, is_stream, is_twin, later_answer, none, one_each, second_answer, shared_answer, twin_of};
 
 use crate::arguments::{
     CaptureArguments, CutArguments, DebugArguments, FilterArgument, Invocation, ReportArguments,
@@ -9,9 +7,7 @@ use crate::arguments::{
 use crate::fault::{Fault, FileOption};
 
 /// Does a path stand for standard input or output?
-pub fn is_standard(path: &str) -> bool
-    ensures { result ≡ is_standard path.now }
-{
+pub fn is_standard(path: &str) -> bool {
     path == "-"
 }
 
@@ -34,9 +30,18 @@ const NO_FILE: GivenFile<'static> = GivenFile {
     is_written: false,
 };
 
-fn read<'a>(option: FileOption, path: Option<&'a str>) -> GivenFile<'a>
-    ensures { result ≡ file_at option path.entry false }
-{
+/// These files of a command, and no others.
+fn only<'a>(files: &[GivenFile<'a>]) -> [GivenFile<'a>; MAX_FILES] {
+    let mut all = [NO_FILE; MAX_FILES];
+    for (index, file) in files.iter().enumerate() {
+        if index < MAX_FILES {
+            all[index] = *file;
+        }
+    }
+    all
+}
+
+fn read<'a>(option: FileOption, path: Option<&'a str>) -> GivenFile<'a> {
     GivenFile {
         option,
         path,
@@ -44,9 +49,7 @@ fn read<'a>(option: FileOption, path: Option<&'a str>) -> GivenFile<'a>
     }
 }
 
-fn written<'a>(option: FileOption, path: Option<&'a str>) -> GivenFile<'a>
-    ensures { result ≡ file_at option path.entry true }
-{
+fn written<'a>(option: FileOption, path: Option<&'a str>) -> GivenFile<'a> {
     GivenFile {
         option,
         path,
@@ -55,9 +58,7 @@ fn written<'a>(option: FileOption, path: Option<&'a str>) -> GivenFile<'a>
 }
 
 /// The file of a filter. One that is given by its text has none.
-fn filter_file<'a>(filter: FilterArgument<'a>) -> GivenFile<'a>
-    ensures { result ≡ filter_file filter.entry }
-{
+fn filter_file<'a>(filter: FilterArgument<'a>) -> GivenFile<'a> {
     match filter {
         FilterArgument::Code(_) => read(FileOption::Filter, None),
         FilterArgument::Numeric(path) => read(FileOption::Filter, Some(path)),
@@ -65,21 +66,8 @@ fn filter_file<'a>(filter: FilterArgument<'a>) -> GivenFile<'a>
     }
 }
 
-/// Three files, or fewer.
-fn at_most_three<'a>(
-    first: GivenFile<'a>,
-    second: GivenFile<'a>,
-    third: GivenFile<'a>,
-) -> [GivenFile<'a>; MAX_FILES]
-    ensures { result ≡ first.entry ∷ second.entry ∷ third.entry ∷ none ∷ none ∷ none ∷ none ∷ [] }
-{
-    [first, second, third, NO_FILE, NO_FILE, NO_FILE, NO_FILE]
-}
-
 /// The files of `watch`.
-fn watch_files(given: WatchArguments<'_>) -> [GivenFile<'_>; MAX_FILES]
-    ensures { result ≡ files_of (Invocation.Watch given.entry) }
-{
+fn watch_files(given: WatchArguments<'_>) -> [GivenFile<'_>; MAX_FILES] {
     [
         read(FileOption::Config, Some(given.config)),
         read(FileOption::Filter, given.filter),
@@ -92,70 +80,56 @@ fn watch_files(given: WatchArguments<'_>) -> [GivenFile<'_>; MAX_FILES]
 }
 
 /// The files of `cut`.
-fn cut_files(given: CutArguments<'_>) -> [GivenFile<'_>; MAX_FILES]
-    ensures { result ≡ files_of (Invocation.Cut given.entry) }
-{
-    [
+fn cut_files(given: CutArguments<'_>) -> [GivenFile<'_>; MAX_FILES] {
+    only(&[
         read(FileOption::Ledger, Some(given.ledger)),
         read(FileOption::A, given.a),
         read(FileOption::B, given.b),
         read(FileOption::Config, given.config),
         written(FileOption::Output, Some(given.output)),
-        NO_FILE,
-        NO_FILE,
-    ]
+    ])
 }
 
 /// The files of `report`.
-fn report_files(given: ReportArguments<'_>) -> [GivenFile<'_>; MAX_FILES]
-    ensures { result ≡ files_of (Invocation.Report given.entry) }
-{
-    [
+fn report_files(given: ReportArguments<'_>) -> [GivenFile<'_>; MAX_FILES] {
+    only(&[
         read(FileOption::Config, Some(given.config)),
         read(FileOption::Manifest, given.manifest),
         read(FileOption::Ledger, Some(given.ledger)),
         read(FileOption::Baseline, given.baseline),
         written(FileOption::Output, Some(given.output)),
-        NO_FILE,
-        NO_FILE,
-    ]
+    ])
 }
 
 impl<'a> Invocation<'a> {
     /// The files that the arguments name: those that are read in the order in which they are looked at, and
-    /// then those that are written.
-    pub fn files(&self) -> [GivenFile<'a>; MAX_FILES]
-        ensures { result ≡ files_of self.now }
-    {
+    /// then those that are written. One that isn't given has no path.
+    pub fn files(&self) -> [GivenFile<'a>; MAX_FILES] {
         match *self {
-            Invocation::Asm => at_most_three(NO_FILE, NO_FILE, NO_FILE),
-            Invocation::Capture(given) => at_most_three(
+            Invocation::Asm => [NO_FILE; MAX_FILES],
+            Invocation::Capture(given) => only(&[
                 filter_file(given.filter),
                 read(FileOption::Recording, Some(given.recording)),
                 written(FileOption::Output, Some(given.output)),
-            ),
+            ]),
             Invocation::Watch(given) => watch_files(given),
-            Invocation::Debug(given) => at_most_three(
+            Invocation::Debug(given) => only(&[
                 filter_file(given.filter),
                 read(FileOption::Tap, Some(given.tap)),
-                NO_FILE,
-            ),
+            ]),
             Invocation::Cut(given) => cut_files(given),
-            Invocation::Links(given) => at_most_three(
+            Invocation::Links(given) => only(&[
                 read(FileOption::Icd, given.icd),
                 read(FileOption::A, given.a),
                 read(FileOption::B, given.b),
-            ),
+            ]),
             Invocation::Report(given) => report_files(given),
-            Invocation::Check(given) => [
+            Invocation::Check(given) => only(&[
                 read(FileOption::Config, Some(given.config)),
                 read(FileOption::Filter, given.filter),
                 read(FileOption::A, given.a),
                 read(FileOption::B, given.b),
-                NO_FILE,
-                NO_FILE,
-                NO_FILE,
-            ],
+            ]),
         }
     }
 
@@ -191,9 +165,7 @@ impl<'a> Invocation<'a> {
     /// # Errors
     ///
     /// `Fault::Taken`, with the second and the first of them.
-    pub fn refuse_taken(&self) -> Result<(), Fault>
-        ensures { result ≡ one_each self.now }
-    {
+    pub fn refuse_taken(&self) -> Result<(), Fault> {
         let files = self.files();
         if let Invocation::Debug(_) = self {
             return refuse_later(FileOption::Standard, &files, false);
@@ -216,30 +188,16 @@ fn stands_for(own: FileOption, told: FileOption) -> bool {
 }
 
 /// Is it standard input, or of a file that is written standard output?
-fn is_stream(file: &GivenFile<'_>, is_written: bool) -> bool
-    ensures { result ≡ is_stream is_written file.now }
-{
+fn is_stream(file: &GivenFile<'_>, is_written: bool) -> bool {
     match file.path {
         Some(path) => file.is_written == is_written && is_standard(path),
         None => false,
     }
 }
 
-/// The first of these that is the stream.
-fn first_stream<'a>(files: &[GivenFile<'a>], is_written: bool) -> Option<GivenFile<'a>>
-    ensures { result ≡ find (is_stream is_written) files.now }
-{
-    files
-        .iter()
-        .copied()
-        .find(|file| is_stream(file, is_written))
-}
-
 /// Refuses the first of these that is the stream which another is already.
-fn refuse_later(by: FileOption, files: &[GivenFile<'_>], is_written: bool) -> Result<(), Fault>
-    ensures { result ≡ later_answer by is_written files.now }
-{
-    match first_stream(files, is_written) {
+fn refuse_later(by: FileOption, files: &[GivenFile<'_>], is_written: bool) -> Result<(), Fault> {
+    match files.iter().find(|file| is_stream(file, is_written)) {
         Some(file) => Err(Fault::Taken {
             file: file.option,
             by,
@@ -249,9 +207,7 @@ fn refuse_later(by: FileOption, files: &[GivenFile<'_>], is_written: bool) -> Re
 }
 
 /// Refuses the second of these that is standard input, or standard output.
-fn refuse_second(files: &[GivenFile<'_>], is_written: bool) -> Result<(), Fault>
-    ensures { result ≡ second_answer is_written files.now }
-{
+fn refuse_second(files: &[GivenFile<'_>], is_written: bool) -> Result<(), Fault> {
     for (index, file) in files.iter().enumerate() {
         if is_stream(file, is_written) {
             return refuse_later(file.option, &files[index + 1..], is_written);
@@ -280,9 +236,7 @@ pub enum Named<'a> {
 
 impl Named<'_> {
     /// Are the two one file?
-    fn is_one_file(&self, other: &Named<'_>) -> bool
-        ensures { result ≡ is_one_file self.now other.now }
-    {
+    fn is_one_file(&self, other: &Named<'_>) -> bool {
         match (*self, *other) {
             (Named::Regular(one), Named::Regular(two)) => one == two,
             (Named::New { folder, name }, Named::New { folder: f, name: n }) => {
@@ -301,33 +255,18 @@ pub struct NamedFile<'a> {
     pub named: Named<'a>,
 }
 
-/// The first of the files that are read, or written, that is this output's file too.
-fn first_twin<'a>(
-    output: &NamedFile<'_>,
-    files: &[NamedFile<'a>],
-    is_written: bool,
-) -> Option<NamedFile<'a>>
-    ensures { result ≡ find (is_twin output.now is_written) files.now }
-{
-    files.iter().copied().find(|file| file.is_written == is_written
-        && output.named.is_one_file(&file.named))
-}
-
 /// The first file that is an output's too: of those that are read, else of the outputs after it.
 fn twin_of(
     output: &NamedFile<'_>,
     files: &[NamedFile<'_>],
     later: &[NamedFile<'_>],
-) -> Option<FileOption>
-    ensures { result ≡ twin_of output.now files.now later.now }
-{
-    match first_twin(output, files, false) {
-        Some(file) => Some(file.option),
-        None => match first_twin(output, later, true) {
-            Some(file) => Some(file.option),
-            None => None,
-        },
-    }
+) -> Option<FileOption> {
+    let inputs = files.iter().filter(|file| !file.is_written);
+    let outputs = later.iter().filter(|file| file.is_written);
+    inputs
+        .chain(outputs)
+        .find(|file| output.named.is_one_file(&file.named))
+        .map(|file| file.option)
 }
 
 /// Refuses an output that is a file which the command reads, or another output: writing it would destroy what
@@ -336,9 +275,7 @@ fn twin_of(
 /// # Errors
 ///
 /// `Fault::Shared`, with the output and the first option that names its file too.
-pub fn refuse_shared(files: &[NamedFile<'_>]) -> Result<(), Fault>
-    ensures { result ≡ shared_answer files.now }
-{
+pub fn refuse_shared(files: &[NamedFile<'_>]) -> Result<(), Fault> {
     for (index, file) in files.iter().enumerate() {
         if file.is_written {
             if let Some(other) = twin_of(file, files, &files[index + 1..]) {

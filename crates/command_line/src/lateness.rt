@@ -1,6 +1,6 @@
 //! How late a timestamp may be, as a person writes it.
 ghost use Rattle.std.specs.Prelude.{◌≡◌};
-ghost use Rattle.command_line.specs.Arguments.{lateness_in, lateness_within, nanoseconds_of, number_in};
+ghost use Rattle.command_line.specs.Lateness.{lateness_in, lateness_within, nanoseconds_of};
 
 use crate::moment::read_number;
 

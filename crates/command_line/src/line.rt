@@ -1,8 +1,4 @@
 //! The line that says why a command was aborted.
-ghost use Rattle.std.specs.Prelude.{◌≡◌, ◌++◌, IfOk, codes, string_bytes};
-ghost use Rattle.vl_config.specs.Keys.{key_name};
-ghost use Rattle.afdx_frame.specs.Frame.{network_letter};
-ghost use Rattle.command_line.specs.Line.{asm_part, config_part, contradiction_part, cut_part, debug_part, field_part, file_part, filtered_text, header_part, icd_part, line_fault_part, line_of, line_text, load_part, manifest_part, numeric_part, part_text, placed_text, report_part, selection_part, source_part, watch_part};
 
 use crate::fault::{Contradiction, Fault, FileOption, ManifestFault, ReportFault, SelectionOption};
 use afdx_frame::Network;
@@ -19,7 +15,7 @@ use run_fault::{Output, WatchFault};
 use std::alloc::{AllocError, Global};
 use std::fmt;
 use std::fmt::{Display, Formatter};
-use vl_config::{ConfigFault, Key};
+use vl_config::ConfigFault;
 
 /// What stands after the name of a fault.
 #[derive(Clone, Copy)]
@@ -38,11 +34,6 @@ enum About {
 }
 
 impl Display for About {
-    ghost use Rattle.std.specs.Prelude.{Some};
-    ghost use Rattle.command_line.specs.Line.{about_text};
-
-    ghost output = { λ about. Some (about_text about) };
-
     fn fmt<W: fmt::Write>(&self, f: &mut Formatter<W>) -> fmt::Result {
         match *self {
             About::Nothing => Ok(()),
@@ -64,11 +55,6 @@ struct Part {
 }
 
 impl Display for Part {
-    ghost use Rattle.std.specs.Prelude.{Some};
-    ghost use Rattle.command_line.specs.Line.{part_text};
-
-    ghost output = { λ part. Some (part_text part) };
-
     fn fmt<W: fmt::Write>(&self, f: &mut Formatter<W>) -> fmt::Result {
         let Part { name, about } = *self;
         write!(f, "{name}{about}")
@@ -76,9 +62,7 @@ impl Display for Part {
 }
 
 /// A fault that its name says all of.
-fn plain(name: &'static str) -> Part
-    ensures { result ≡ record { name = name.entry; about = About.Nothing } }
-{
+fn plain(name: &'static str) -> Part {
     Part {
         name,
         about: About::Nothing,
@@ -86,9 +70,7 @@ fn plain(name: &'static str) -> Part
 }
 
 /// A fault at a place.
-fn placed_at(name: &'static str, at: usize) -> Part
-    ensures { result ≡ record { name = name.entry; about = About.At at } }
-{
+fn placed_at(name: &'static str, at: usize) -> Part {
     Part {
         name,
         about: About::At(at as u64),
@@ -96,9 +78,7 @@ fn placed_at(name: &'static str, at: usize) -> Part
 }
 
 /// A fault of the table, at a link or in the top table.
-fn in_table(name: &'static str, link: Option<u32>) -> Part
-    ensures { part_text result ≡ placed_text name.entry.now link }
-{
+fn in_table(name: &'static str, link: Option<u32>) -> Part {
     let about = match link {
         Some(link) => About::Link(link),
         None => About::Word("top"),
@@ -106,9 +86,7 @@ fn in_table(name: &'static str, link: Option<u32>) -> Part
     Part { name, about }
 }
 
-fn config_part(fault: ConfigFault) -> Part
-    ensures { part_text result ≡ config_part fault }
-{
+fn config_part(fault: ConfigFault) -> Part {
     match fault {
         ConfigFault::Text => plain("1 Text"),
         ConfigFault::Missing { link } => in_table("2 Missing", link),
@@ -122,9 +100,7 @@ fn config_part(fault: ConfigFault) -> Part
     }
 }
 
-fn numeric_part(fault: NumericFault) -> Part
-    ensures { part_text result ≡ numeric_part fault }
-{
+fn numeric_part(fault: NumericFault) -> Part {
     match fault {
         NumericFault::Character { at } => placed_at("1 Character", at),
         NumericFault::Number { at } => placed_at("2 Number", at),
@@ -135,9 +111,7 @@ fn numeric_part(fault: NumericFault) -> Part
     }
 }
 
-fn load_part(fault: LoadFault) -> Part
-    ensures { part_text result ≡ load_part fault }
-{
+fn load_part(fault: LoadFault) -> Part {
     match fault {
         LoadFault::Length => plain("1 Length"),
         LoadFault::UnknownCode { at } => placed_at("2 UnknownCode", at),
@@ -154,9 +128,7 @@ fn load_part(fault: LoadFault) -> Part
     }
 }
 
-fn text_part(fault: TextFault) -> Part
-    ensures { part_text result ≡ asm_part (AsmFault.Text fault) }
-{
+fn text_part(fault: TextFault) -> Part {
     match fault {
         TextFault::Character { at } => placed_at("1 Text 1 Character", at),
         TextFault::Number { at } => placed_at("1 Text 2 Number", at),
@@ -166,9 +138,7 @@ fn text_part(fault: TextFault) -> Part
     }
 }
 
-fn asm_part(fault: AsmFault) -> Part
-    ensures { part_text result ≡ asm_part fault }
-{
+fn asm_part(fault: AsmFault) -> Part {
     match fault {
         AsmFault::Text(fault) => text_part(fault),
         AsmFault::Empty => plain("2 Empty"),
@@ -181,20 +151,16 @@ fn asm_part(fault: AsmFault) -> Part
     }
 }
 
-fn debug_name(fault: DebugFault) -> &'static str
-    ensures { result.now ≡ debug_part fault }
-{
+fn debug_part(fault: DebugFault) -> Part {
     match fault {
-        DebugFault::NoFrame => "1 NoFrame",
-        DebugFault::NoSuchFrame => "2 NoSuchFrame",
-        DebugFault::NoSuchInsn => "3 NoSuchInsn",
-        DebugFault::Memory => "4 Memory",
+        DebugFault::NoFrame => plain("1 NoFrame"),
+        DebugFault::NoSuchFrame => plain("2 NoSuchFrame"),
+        DebugFault::NoSuchInsn => plain("3 NoSuchInsn"),
+        DebugFault::Memory => plain("4 Memory"),
     }
 }
 
-pub(crate) fn file_name(file: FileOption) -> &'static str
-    ensures { result.now ≡ file_part file }
-{
+pub(crate) fn file_name(file: FileOption) -> &'static str {
     match file {
         FileOption::Standard => "-",
         FileOption::Config => "--config",
@@ -213,9 +179,7 @@ pub(crate) fn file_name(file: FileOption) -> &'static str
     }
 }
 
-fn header_name(fault: HeaderFault) -> &'static str
-    ensures { result.now ≡ header_part fault }
-{
+fn header_name(fault: HeaderFault) -> &'static str {
     match fault {
         HeaderFault::Short => "1 Short",
         HeaderFault::Magic => "2 Magic",
@@ -230,9 +194,7 @@ fn header_name(fault: HeaderFault) -> &'static str
 }
 
 /// A fault that names what it concerns.
-fn with_word(name: &'static str, word: &'static str) -> Part
-    ensures { result ≡ record { name = name.entry; about = About.Word word.entry } }
-{
+fn with_word(name: &'static str, word: &'static str) -> Part {
     Part {
         name,
         about: About::Word(word),
@@ -240,19 +202,14 @@ fn with_word(name: &'static str, word: &'static str) -> Part
 }
 
 /// The fault of a recording's header.
-fn with_header(name: &'static str, network: Network, fault: HeaderFault) -> Part
-    ensures { part_text result
-        ≡ name.entry.now ++ (codes " " ++ network_letter network ++ codes " " ++ header_part fault) }
-{
+fn with_header(name: &'static str, network: Network, fault: HeaderFault) -> Part {
     Part {
         name,
         about: About::Words(network.letter(), header_name(fault)),
     }
 }
 
-fn watch_part(fault: WatchFault) -> Part
-    ensures { part_text result ≡ watch_part fault }
-{
+fn watch_part(fault: WatchFault) -> Part {
     match fault {
         WatchFault::Workers => plain("1 Workers"),
         WatchFault::Header { network, fault } => with_header("2 Header", network, fault),
@@ -270,9 +227,7 @@ fn watch_part(fault: WatchFault) -> Part
     }
 }
 
-fn field_name(fault: FrameFault) -> &'static str
-    ensures { result.now ≡ field_part fault }
-{
+fn field_name(fault: FrameFault) -> &'static str {
     match fault {
         FrameFault::Timestamp => "timestamp",
         FrameFault::Network => "network",
@@ -290,9 +245,7 @@ fn field_name(fault: FrameFault) -> &'static str
 }
 
 /// What is wrong with a ledger's line; of a frame's line the first field that is.
-fn line_fault_name(fault: LineFault) -> &'static str
-    ensures { result.now ≡ line_fault_part fault }
-{
+fn line_fault_name(fault: LineFault) -> &'static str {
     match fault {
         LineFault::Head => "head",
         LineFault::Frame(field) => field_name(field),
@@ -303,9 +256,7 @@ fn line_fault_name(fault: LineFault) -> &'static str
     }
 }
 
-fn source_name(source: CutSource) -> &'static str
-    ensures { result.now ≡ source_part source }
-{
+fn source_name(source: CutSource) -> &'static str {
     match source {
         CutSource::Ledger => "Ledger",
         CutSource::Recording(network) => network.letter(),
@@ -313,9 +264,7 @@ fn source_name(source: CutSource) -> &'static str
 }
 
 /// A fault of a line, and what is wrong there.
-fn in_line(name: &'static str, line: u64, word: &'static str) -> Part
-    ensures { result ≡ record { name = name.entry; about = About.AtWord line word.entry } }
-{
+fn in_line(name: &'static str, line: u64, word: &'static str) -> Part {
     Part {
         name,
         about: About::AtWord(line, word),
@@ -323,18 +272,14 @@ fn in_line(name: &'static str, line: u64, word: &'static str) -> Part
 }
 
 /// A fault of a line.
-fn at_line(name: &'static str, line: u64) -> Part
-    ensures { result ≡ record { name = name.entry; about = About.At line } }
-{
+fn at_line(name: &'static str, line: u64) -> Part {
     Part {
         name,
         about: About::At(line),
     }
 }
 
-fn cut_part(fault: CutFault) -> Part
-    ensures { part_text result ≡ cut_part fault }
-{
+fn cut_part(fault: CutFault) -> Part {
     match fault {
         CutFault::Ledger { line, fault } => in_line("1 Ledger", line, line_fault_name(fault)),
         CutFault::Order { line } => at_line("2 Order", line),
@@ -346,9 +291,7 @@ fn cut_part(fault: CutFault) -> Part
     }
 }
 
-fn contradiction_name(found: Contradiction) -> &'static str
-    ensures { result.now ≡ contradiction_part found }
-{
+fn contradiction_name(found: Contradiction) -> &'static str {
     match found {
         Contradiction::Link => "link",
         Contradiction::Copy => "copy",
@@ -357,9 +300,7 @@ fn contradiction_name(found: Contradiction) -> &'static str
 }
 
 /// A manifest that isn't one, or isn't that of the report's files.
-fn manifest_part(fault: ManifestFault) -> Part
-    ensures { part_text result ≡ manifest_part fault }
-{
+fn manifest_part(fault: ManifestFault) -> Part {
     match fault {
         ManifestFault::Form { line } => in_line("5 Manifest", line, "form"),
         ManifestFault::Version => with_word("5 Manifest", "version"),
@@ -368,9 +309,7 @@ fn manifest_part(fault: ManifestFault) -> Part
     }
 }
 
-fn report_part(fault: ReportFault) -> Part
-    ensures { part_text result ≡ report_part fault }
-{
+fn report_part(fault: ReportFault) -> Part {
     match fault {
         ReportFault::Ledger { line, fault } => in_line("1 Ledger", line, line_fault_name(fault)),
         ReportFault::Contradiction { line, found } => {
@@ -382,20 +321,11 @@ fn report_part(fault: ReportFault) -> Part
     }
 }
 
-/// The head of a key's column.
-fn column_name(key: Key) -> &'static str
-    ensures { result.now ≡ key_name key }
-{
-    key.name()
-}
-
-fn icd_part(fault: IcdFault) -> Part
-    ensures { part_text result ≡ icd_part fault }
-{
+fn icd_part(fault: IcdFault) -> Part {
     match fault {
         IcdFault::Head { line } => in_line("2 Icd", line, "head"),
         IcdFault::Cells { line } => in_line("2 Icd", line, "cells"),
-        IcdFault::Value { line, column } => in_line("2 Icd", line, column_name(column)),
+        IcdFault::Value { line, column } => in_line("2 Icd", line, column.name()),
         IcdFault::TwiceId { line } => in_line("2 Icd", line, "twiceid"),
         IcdFault::TwiceName { line } => in_line("2 Icd", line, "twicename"),
         IcdFault::TooMany { line } => in_line("2 Icd", line, "toomany"),
@@ -403,9 +333,7 @@ fn icd_part(fault: IcdFault) -> Part
     }
 }
 
-fn selection_name(option: SelectionOption) -> &'static str
-    ensures { result.now ≡ selection_part option }
-{
+fn selection_name(option: SelectionOption) -> &'static str {
     match option {
         SelectionOption::Link => "link",
         SelectionOption::Verdict => "verdict",
@@ -417,83 +345,52 @@ fn selection_name(option: SelectionOption) -> &'static str
     }
 }
 
-/// A fault line, after the program's name.
-#[derive(Clone, Copy)]
-enum Line {
-    /// What the fault is of, and a word on that.
-    Word(&'static str, &'static str),
-    /// What the fault is of, and which it is.
-    Part(&'static str, Part),
-    /// The same in a filter of the table, by its number. That of the command line has none.
-    Filter(&'static str, Part, u8),
-}
-
-/// The line of a fault of a filter.
-fn filter_line(of: &'static str, part: Part, filter: Option<u8>) -> Line
-    ensures { line_text result ≡ filtered_text of.entry.now (part_text part) filter }
-{
-    match filter {
-        Some(number) => Line::Filter(of, part, number),
-        None => Line::Part(of, part),
-    }
-}
-
-/// The line of a fault.
-fn line_for(fault: &Fault) -> Line
-    ensures { line_text result ≡ line_of fault.now }
-{
+/// What a fault is of, and which it is.
+fn part_of(fault: &Fault) -> (&'static str, Part) {
     match *fault {
         Fault::File(file) | Fault::Shared { output: file, .. } | Fault::Taken { file, .. } => {
-            Line::Word("file", file_name(file))
+            ("file", plain(file_name(file)))
         }
-        Fault::Config(fault) => Line::Part("config", config_part(fault)),
-        Fault::Asm(fault) => Line::Part("asm", asm_part(fault)),
-        Fault::Numeric { fault, filter } => filter_line("numeric", numeric_part(fault), filter),
-        Fault::Load { fault, filter } => filter_line("load", load_part(fault), filter),
-        Fault::Watch(fault) => Line::Part("watch", watch_part(fault)),
-        Fault::Manifest => Line::Word("watch", "4 Write manifest"),
-        Fault::Debug(fault) => Line::Word("debug", debug_name(fault)),
-        Fault::Cut(fault) => Line::Part("cut", cut_part(fault)),
+        Fault::Config(fault) => ("config", config_part(fault)),
+        Fault::Asm(fault) => ("asm", asm_part(fault)),
+        Fault::Numeric { fault, .. } => ("numeric", numeric_part(fault)),
+        Fault::Load { fault, .. } => ("load", load_part(fault)),
+        Fault::Watch(fault) => ("watch", watch_part(fault)),
+        Fault::Manifest => ("watch", plain("4 Write manifest")),
+        Fault::Debug(fault) => ("debug", debug_part(fault)),
+        Fault::Cut(fault) => ("cut", cut_part(fault)),
         Fault::Selection { option, item } => {
-            Line::Part("cut 8 Selection", placed_at(selection_name(option), item))
+            ("cut 8 Selection", placed_at(selection_name(option), item))
         }
-        Fault::Interfaces(file) => Line::Word("interfaces", file_name(file)),
-        Fault::Order(file) => Line::Word("order", file_name(file)),
-        Fault::Repeated(file) => Line::Word("repeated", file_name(file)),
-        Fault::Report(fault) => Line::Part("report", report_part(fault)),
-        Fault::Baseline(fault) => Line::Part("report 6 Baseline", report_part(fault)),
-        Fault::Constant => Line::Word("links", "1 Constant"),
-        Fault::Icd(fault) => Line::Part("links", icd_part(fault)),
-        Fault::Draft(fault) => Line::Part("links 3 Draft", config_part(fault)),
-        Fault::Unsound => Line::Word("check", "1 Unsound"),
+        Fault::Interfaces(file) => ("interfaces", plain(file_name(file))),
+        Fault::Order(file) => ("order", plain(file_name(file))),
+        Fault::Repeated(file) => ("repeated", plain(file_name(file))),
+        Fault::Report(fault) => ("report", report_part(fault)),
+        Fault::Baseline(fault) => ("report 6 Baseline", report_part(fault)),
+        Fault::Constant => ("links", plain("1 Constant")),
+        Fault::Icd(fault) => ("links", icd_part(fault)),
+        Fault::Draft(fault) => ("links 3 Draft", config_part(fault)),
+        Fault::Unsound => ("check", plain("1 Unsound")),
     }
 }
 
-impl Display for Line {
-    ghost use Rattle.std.specs.Prelude.{Some};
-    ghost use Rattle.command_line.specs.Line.{line_text};
-
-    ghost output = { λ line. Some (line_text line) };
-
-    fn fmt<W: fmt::Write>(&self, f: &mut Formatter<W>) -> fmt::Result {
-        match *self {
-            Line::Word(of, word) => write!(f, "afdxmon: {of} {word}"),
-            Line::Part(of, part) => write!(f, "afdxmon: {of} {part}"),
-            Line::Filter(of, part, number) => write!(f, "afdxmon: {of} {part} filter {number}"),
-        }
+/// The filter of the table that a fault is of, by its number. That of the command line has none.
+fn filter_of(fault: &Fault) -> Option<u8> {
+    match *fault {
+        Fault::Numeric { filter, .. } | Fault::Load { filter, .. } => filter,
+        _ => None,
     }
 }
 
 /// The fault line, without its newline.
 impl Display for Fault {
-    ghost use Rattle.std.specs.Prelude.{Some};
-    ghost use Rattle.command_line.specs.Line.{line_of};
-
-    ghost output = { λ fault. Some (line_of fault) };
-
     fn fmt<W: fmt::Write>(&self, f: &mut Formatter<W>) -> fmt::Result {
-        let line = line_for(self);
-        write!(f, "{line}")
+        let (of, part) = part_of(self);
+        write!(f, "afdxmon: {of} {part}")?;
+        match filter_of(self) {
+            Some(number) => write!(f, " filter {number}"),
+            None => Ok(()),
+        }
     }
 }
 
@@ -502,8 +399,6 @@ impl Display for Fault {
 /// # Errors
 ///
 /// `AllocError` if there is no memory for the line.
-pub fn fault_line(alloc: Global, fault: &Fault) -> Result<String, AllocError>
-    ensures { IfOk result (λ line. string_bytes line ≡ line_of fault.now) }
-{
+pub fn fault_line(alloc: Global, fault: &Fault) -> Result<String, AllocError> {
     fault.to_string(alloc)
 }

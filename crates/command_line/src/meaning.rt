@@ -145,7 +145,7 @@ pub fn header_advice(fault: HeaderFault, head: &[u8]) -> &'static str {
 /// What to do where a recording ends bad for a reason that has an advice of its own.
 fn reason_advice(reason: BadReason) -> Option<&'static str> {
     Some(match reason {
-        BadReason::StampBack => {
+        BadReason::StampBack { .. } => {
             "the frames from there on are left out: reordercap in.pcap out.pcap sorts them"
         }
         BadReason::TooMany => {

@@ -1,6 +1,4 @@
 //! The notes on recordings that end early.
-ghost use Rattle.std.specs.Prelude.{◌≡◌};
-ghost use Rattle.command_line.specs.Exit.{reason_text};
 
 use afdx_frame::Network;
 use pcap_io::{BadReason, Ending};
@@ -12,11 +10,6 @@ use std::fmt::{Display, Formatter};
 struct Frames(u64);
 
 impl Display for Frames {
-    ghost use Rattle.std.specs.Prelude.{Some};
-    ghost use Rattle.command_line.specs.Exit.{frames_text};
-
-    ghost output = { λ frames. Some (frames_text frames.0) };
-
     fn fmt<W: fmt::Write>(&self, f: &mut Formatter<W>) -> fmt::Result {
         let count = self.0;
         if count == 1 {
@@ -28,13 +21,11 @@ impl Display for Frames {
 }
 
 /// Why a recording ends bad, in words.
-pub fn reason_words(reason: BadReason) -> &'static str
-    ensures { result.now ≡ reason_text reason }
-{
+pub fn reason_words(reason: BadReason) -> &'static str {
     match reason {
         BadReason::Length => "captured length over 262144 bytes",
         BadReason::Fraction => "fraction of a second out of range",
-        BadReason::StampBack => "timestamp out of order",
+        BadReason::StampBack { .. } => "timestamp out of order",
         BadReason::TooMany => "too many frames",
         BadReason::BlockLength => "a block's length is wrong",
         BadReason::BlockLengthsDiffer => "the two lengths of a block differ",
@@ -56,11 +47,6 @@ pub fn reason_words(reason: BadReason) -> &'static str
 struct EndingPart(Ending);
 
 impl Display for EndingPart {
-    ghost use Rattle.std.specs.Prelude.{Some};
-    ghost use Rattle.command_line.specs.Exit.{ending_part};
-
-    ghost output = { λ part. Some (ending_part part.0) };
-
     fn fmt<W: fmt::Write>(&self, f: &mut Formatter<W>) -> fmt::Result {
         match self.0 {
             Ending::Clean(count) => {
@@ -84,11 +70,6 @@ impl Display for EndingPart {
 pub struct Note(pub Ending);
 
 impl Display for Note {
-    ghost use Rattle.std.specs.Prelude.{Some};
-    ghost use Rattle.command_line.specs.Exit.{note_of};
-
-    ghost output = { λ note. Some (note_of note.0) };
-
     fn fmt<W: fmt::Write>(&self, f: &mut Formatter<W>) -> fmt::Result {
         let ending = EndingPart(self.0);
         write!(f, "afdxmon: note: recording{ending}")
@@ -100,11 +81,6 @@ impl Display for Note {
 struct Packets(u64);
 
 impl Display for Packets {
-    ghost use Rattle.std.specs.Prelude.{Some};
-    ghost use Rattle.command_line.specs.Exit.{packets_text};
-
-    ghost output = { λ packets. Some (packets_text packets.0) };
-
     fn fmt<W: fmt::Write>(&self, f: &mut Formatter<W>) -> fmt::Result {
         let count = self.0;
         if count == 1 {
@@ -121,11 +97,6 @@ impl Display for Packets {
 pub struct SkippedNote(pub Option<Network>, pub u64);
 
 impl Display for SkippedNote {
-    ghost use Rattle.std.specs.Prelude.{Some};
-    ghost use Rattle.command_line.specs.Exit.{skipped_note_of};
-
-    ghost output = { λ note. Some (skipped_note_of note.0 note.1) };
-
     fn fmt<W: fmt::Write>(&self, f: &mut Formatter<W>) -> fmt::Result {
         let packets = Packets(self.1);
         match self.0 {
@@ -146,11 +117,6 @@ impl Display for SkippedNote {
 pub struct TapNote(pub Network, pub Ending);
 
 impl Display for TapNote {
-    ghost use Rattle.std.specs.Prelude.{Some};
-    ghost use Rattle.command_line.specs.Exit.{tap_note_of};
-
-    ghost output = { λ note. Some (tap_note_of note.0 note.1) };
-
     fn fmt<W: fmt::Write>(&self, f: &mut Formatter<W>) -> fmt::Result {
         let (network, ending) = (self.0.letter(), EndingPart(self.1));
         write!(f, "afdxmon: note: recording of network {network}{ending}")

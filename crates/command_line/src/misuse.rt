@@ -1,6 +1,4 @@
 //! Arguments that clap takes and a command doesn't.
-ghost use Rattle.std.specs.Prelude.{◌≡◌};
-ghost use Rattle.command_line.specs.Arguments.{misuse_kind};
 
 use clap::error::ErrorKind;
 
@@ -37,9 +35,7 @@ pub enum Misuse {
 
 impl Misuse {
     /// The kind of clap's error that says so.
-    pub fn kind(self) -> ErrorKind
-        ensures { result ≡ misuse_kind self }
-    {
+    pub fn kind(self) -> ErrorKind {
         match self {
             Misuse::TwoFilters | Misuse::NoPackets | Misuse::TwoEnds => {
                 ErrorKind::ArgumentConflict

@@ -2,7 +2,7 @@
 ghost use Rattle.std.specs.Prelude.{◌≡◌, ◌≤◌, ◌*◌, ◌^◌, [], codes, option_and_then, option_map};
 ghost use Rattle.std.specs.Result.{result_ok};
 ghost use Rattle.jiff_fmt.specs.Temporal.{parse_time, parse_timestamp, time_parts};
-ghost use Rattle.command_line.specs.Arguments.{number_in, text_of};
+ghost use Rattle.command_line.specs.Numbers.{number_in, text_of};
 ghost use Rattle.command_line.specs.Moment.{clock_nanoseconds, decimal_in, digits_in, has_clock_bytes, has_colons, instant_in, is_clock_byte, is_digits, is_utc, is_m, is_s, is_u, moment_in, number_before, places_of, since_in, span_in, within};
 
 use jiff::Timestamp;

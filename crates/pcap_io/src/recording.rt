@@ -10,8 +10,8 @@ pub enum BadReason {
     Length,
     /// The fraction makes a second or more.
     Fraction,
-    /// The timestamp lies further below the greatest timestamp before it than it may.
-    StampBack,
+    /// The timestamp lies `by` nanoseconds below the greatest timestamp before it, further than it may.
+    StampBack { by: u64 },
     /// More packets follow than are read.
     TooMany,
     /// A block's length is no multiple of 4, too small for its type, or too large for a block that is
@@ -50,7 +50,7 @@ impl BadReason {
         match self {
             BadReason::Length => "length",
             BadReason::Fraction => "fraction",
-            BadReason::StampBack => "stampback",
+            BadReason::StampBack { .. } => "stampback",
             BadReason::TooMany => "toomany",
             BadReason::BlockLength => "blocklength",
             BadReason::BlockLengthsDiffer => "blocklengthsdiffer",

@@ -1,6 +1,6 @@
 //! An output that is written in blocks, and handed to the system before the program waits for an input that
 //! pauses, as pipes do.
-use crate::streams::{Input, OutputStream};
+use crate::streams::{Input, Noting, OutputStream};
 use run_manifest::{Digesting, Sum, Tally};
 use std::alloc::{AllocError, Global};
 use std::io::{BufWriter, ErrorKind, Read, Write};
@@ -151,14 +151,22 @@ impl Write for SharedBlocks {
 /// the output can't be written, which the command then tells when it ends its output.
 #[derive(Drop)]
 pub struct LiveInput {
-    input: Input,
+    input: Noting<Input>,
     output: Option<SharedBlocks>,
 }
 
 impl LiveInput {
     /// `output` is that of an input that may pause.
     pub fn new(input: Input, output: Option<SharedBlocks>) -> LiveInput {
-        LiveInput { input, output }
+        LiveInput {
+            input: Noting::new(input),
+            output,
+        }
+    }
+
+    /// Why the system gave no more, if it didn't.
+    pub fn refused(&self) -> Option<io::Error> {
+        self.input.refused()
     }
 }
 

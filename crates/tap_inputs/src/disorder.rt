@@ -1,10 +1,6 @@
 //! By how much the frame that ends a recording is out of order, and which option takes it.
-use crate::recordings::{Reading, files_of};
-use crate::streams::Input;
-use crate::taps::Tap;
-use afdx_frame::Network;
 use command_line::{Invocation, MAX_LATE_MICROS};
-use pcap_io::{Found, TapReader};
+use pcap_io::{BadReason, Ending};
 use std::fmt;
 use std::fmt::{Display, Formatter};
 
@@ -26,38 +22,14 @@ pub struct Disorder {
 }
 
 impl Disorder {
-    /// Of the frame after the first `count` of a command's recording, if that can be read again.
-    pub fn of(
-        rt: &HostRuntime,
-        command: Invocation<'_>,
-        tap: &Tap,
-        count: u64,
-    ) -> Option<Disorder> {
-        let late = lateness_after(rt, tap, count)?;
+    /// Of the frame that ends a command's recording, if one does.
+    pub fn of(command: Invocation<'_>, ending: Ending) -> Option<Disorder> {
+        let Ending::Bad(_, BadReason::StampBack { by: late }) = ending else {
+            return None;
+        };
         let taken = taken_by(command, late);
         Some(Disorder { late, taken })
     }
-}
-
-/// By how many nanoseconds the frame after the first `count` of a recording lies below the greatest
-/// timestamp.
-fn lateness_after(rt: &HostRuntime, tap: &Tap, count: u64) -> Option<u64> {
-    if !tap.is_of_regular_files(rt) {
-        return None;
-    }
-    let first = Input::open(rt, tap.files.first()?.path.as_str()).ok()?;
-    let source = files_of(Reading::quiet(rt, Network::A), tap, first, None).ok()?;
-    let mut reader = TapReader::open(source, Network::A, 1 << 32, u64::MAX).ok()?;
-    let (mut high, mut late) = (0u64, 0);
-    for _ in 0..count.saturating_add(1) {
-        let Ok(Found::Frame) = reader.advance(rt.alloc()) else {
-            return None;
-        };
-        let stamp = reader.frame().stamp().0;
-        late = high.saturating_sub(stamp);
-        high = high.max(stamp);
-    }
-    Some(late)
 }
 
 /// What takes a frame so late in a command.

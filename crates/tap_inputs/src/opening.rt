@@ -1,6 +1,6 @@
 //! Opens recordings and other files that are read.
+use crate::outcome::{Cause, NO_RUN, Outcome};
 use crate::pauses::Pauses;
-use crate::refused::NO_RUN;
 use crate::streams::Input;
 use afdx_frame::Network;
 use command_line::{Fault, FileOption};
@@ -8,8 +8,8 @@ use pcap_io::TapSource;
 use pcapng::{Choice, RecordingSource};
 
 /// Opens a file that is read.
-pub fn open(rt: &HostRuntime, path: &str, file: FileOption) -> Result<Input, Fault> {
-    Input::open(rt, path).map_err(|_| Fault::File(file))
+pub fn open(rt: &HostRuntime, path: &str, file: FileOption) -> Result<Input, Outcome> {
+    Input::open(rt, path).map_err(|error| Outcome::of_file(file, Cause::System(error)))
 }
 
 /// Opens the recording of a network. A network without one has no frames. A pipe is open once somebody writes
@@ -19,7 +19,7 @@ pub fn open_tap(
     path: Option<&str>,
     network: Network,
     pauses: Option<&Pauses>,
-) -> Result<Input, Fault> {
+) -> Result<Input, Outcome> {
     let Some(path) = path else {
         return Ok(Input::empty_recording());
     };

@@ -2,6 +2,7 @@
 //! gone at the end.
 use crate::blocks::LiveInput;
 use crate::recordings::Reading;
+use crate::taps::Tap;
 use afdx_frame::Network;
 use run_manifest::{Digesting, Sum};
 use std::fmt::{Display, Formatter};
@@ -165,16 +166,19 @@ impl Display for ProgressLine {
 pub struct Recording<'p> {
     input: Digesting<LiveInput>,
     reading: Reading<'p>,
+    /// The recording that it is a file of, and its number there.
+    place: (&'p Tap, usize),
     head: [u8; FORMAT_LEN],
     kept: usize,
 }
 
 impl<'p> Recording<'p> {
     /// A file of which nothing was read.
-    pub fn new(input: LiveInput, reading: Reading<'p>) -> Recording<'p> {
+    pub fn new(input: LiveInput, reading: Reading<'p>, place: (&'p Tap, usize)) -> Recording<'p> {
         Recording {
             input: Digesting::new(input, reading.hashed),
             reading,
+            place,
             head: [0; FORMAT_LEN],
             kept: 0,
         }
@@ -225,6 +229,10 @@ impl Read for Recording<'_> {
         self.note_begin();
         let read = self.input.read(buf);
         self.note_end(!matches!(read, Ok(1..)));
+        if let Err(error) = read {
+            let (tap, number) = self.place;
+            tap.fails(number, error);
+        }
         let count = read?;
         let bytes = &buf[..count];
         self.keep(bytes);

@@ -6,9 +6,9 @@ ghost use Rattle.recording_files.specs.Supply.{GivesNext, KeepsFiles};
 
 use crate::blocks::{LiveInput, SharedBlocks};
 use crate::opening::{open_tap, recording_of};
+use crate::outcome::Outcome;
 use crate::pauses::Pauses;
 use crate::progress::{Progress, Recording};
-use crate::refused::Refused;
 use crate::streams::Input;
 use crate::taps::{Tap, TapFile, Taps};
 use afdx_frame::Network;
@@ -65,18 +65,26 @@ pub struct FileList<'p> {
 }
 
 impl<'p> FileList<'p> {
-    /// The file whose turn it is, if it can be opened.
-    fn open(&mut self, file: &TapFile) -> Option<FileSource<'p>> {
+    /// The file of this number, if it can be opened.
+    fn open(&mut self, number: usize, file: &TapFile) -> Option<FileSource<'p>> {
         let Reading { rt, .. } = self.reading;
         let input = match self.first.take() {
-            Some(first) => first,
-            None => Input::open(rt, &file.path).ok()?,
+            Some(first) => Ok(first),
+            None => Input::open(rt, &file.path),
+        };
+        let input = match input {
+            Ok(input) => input,
+            Err(error) => {
+                self.tap.fails(number, error);
+                return None;
+            }
         };
         let output = match &self.output {
             Some(output) => Some(output.share().ok()?),
             None => None,
         };
-        let recording = Recording::new(LiveInput::new(input, output), self.reading);
+        let input = LiveInput::new(input, output);
+        let recording = Recording::new(input, self.reading, (self.tap, number));
         recording_of(rt, ReadSource::new(recording), file.choice).ok()
     }
 }
@@ -90,12 +98,12 @@ impl<'p> FileList<'p> {
         if let Some(file) = last {
             self.ended.add_read(file).map_err(|_| ())?;
         }
-        let tap = self.tap;
-        let Some(file) = tap.files.get(self.begun) else {
+        let (tap, number) = (self.tap, self.begun);
+        let Some(file) = tap.files.get(number) else {
             return Ok(None);
         };
-        self.begun = self.begun.saturating_add(1);
-        match self.open(file) {
+        self.begun = number.saturating_add(1);
+        match self.open(number, file) {
             Some(file) => Ok(Some(file)),
             None => Err(()),
         }
@@ -204,7 +212,7 @@ pub fn files_of<'p>(
 ) -> Result<TapFiles<'p>, Fault> {
     let Reading { rt, .. } = reading;
     if !tap.is_of_several() {
-        let recording = Recording::new(LiveInput::new(first, output), reading);
+        let recording = Recording::new(LiveInput::new(first, output), reading, (tap, 0));
         let source = recording_of(rt, ReadSource::new(recording), tap.choice())?;
         return Ok(RecordingFiles::One(source));
     }
@@ -245,7 +253,7 @@ pub fn open_both<'p>(
     (a, b): (Option<&str>, Option<&str>),
     taps: &'p Taps,
     late: u64,
-) -> Result<(TapFiles<'p>, TapFiles<'p>), Refused> {
+) -> Result<(TapFiles<'p>, TapFiles<'p>), Outcome> {
     let first_a = open_tap(rt, a, Network::A, None)?;
     let first_b = open_tap(rt, b, Network::B, None)?;
     taps.look(rt, &first_a, &first_b, late)?;

@@ -3,7 +3,7 @@ use crate::disorder::Amount;
 use crate::recordings::TapEnd;
 use crate::taps::Tap;
 use afdx_frame::Network;
-use command_line::FileOption;
+use command_line::{FileOption, Shown};
 use std::io;
 
 /// The longest gap that is no news, in nanoseconds.
@@ -34,8 +34,8 @@ pub fn tell_gaps(rt: &HostRuntime, network: Network, tap: &Tap, end: &TapEnd) ->
         if told == MAX_TOLD {
             return eprintln!(rt; "afdxmon: note: network {letter} has more gaps between its files");
         }
-        let after = tap.path_at(number).unwrap_or("");
-        let before = tap.path_at(number.saturating_add(1)).unwrap_or("");
+        let after = Shown(tap.path_at(number).unwrap_or(""));
+        let before = Shown(tap.path_at(number.saturating_add(1)).unwrap_or(""));
         let gap = Amount(gap);
         eprintln!(rt;
             "afdxmon: note: network {letter}: a gap of {gap} between {after} and {before}"

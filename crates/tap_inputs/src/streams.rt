@@ -1,5 +1,6 @@
 //! What the program reads and writes: files, the standard streams, and what stands in the place of a file
 //! that isn't named.
+use crate::limits::{Limited, standard_output};
 use std::fs::{File, Metadata, OpenOptions};
 use std::io::{Read, Stdin, Stdout, Write};
 use std::{fs, io};
@@ -75,7 +76,7 @@ impl Read for Input {
 /// Devices and pipes can't be emptied.
 #[derive(Drop)]
 pub struct OutputFile {
-    file: File,
+    file: Limited<File>,
     /// Is it a regular file that nothing was written to?
     to_be_emptied: bool,
 }
@@ -84,17 +85,17 @@ impl OutputFile {
     /// Opens a file as it stands. One that isn't there is made, and empty.
     fn open(rt: &HostRuntime, path: &str) -> io::Result<OutputFile> {
         let file = OpenOptions::new().write(true).create(true).open(rt, path)?;
-        let to_be_emptied = file.metadata()?.is_file();
+        let found = file.metadata()?;
         Ok(OutputFile {
-            file,
-            to_be_emptied,
+            file: Limited::from_start(rt, file, &found),
+            to_be_emptied: found.is_file(),
         })
     }
 
     /// Empties a regular file to which nothing was written.
     fn empty(&mut self) -> io::Result<()> {
         if self.to_be_emptied {
-            self.file.set_len(0)?;
+            self.file.empty()?;
             self.to_be_emptied = false;
         }
         Ok(())
@@ -118,7 +119,7 @@ impl Write for OutputFile {
 #[derive(Drop)]
 pub enum OutputStream {
     File(OutputFile),
-    Standard(Stdout),
+    Standard(Limited<Stdout>),
     /// It is written nowhere.
     Nowhere,
 }
@@ -127,7 +128,7 @@ impl OutputStream {
     /// Opens a file as it stands, or standard output for `-`.
     pub fn open(rt: &HostRuntime, path: &str) -> io::Result<OutputStream> {
         if command_line::is_standard(path) {
-            return Ok(OutputStream::Standard(rt.stdout()));
+            return Ok(OutputStream::Standard(standard_output(rt)));
         }
         Ok(OutputStream::File(OutputFile::open(rt, path)?))
     }
@@ -159,32 +160,49 @@ impl Write for OutputStream {
     }
 }
 
-/// A writer that keeps why the system took no more.
+/// A reader or a writer that keeps why the system gave, or took, no more.
 #[derive(Drop)]
-pub struct Noting<W> {
-    writer: W,
+pub struct Noting<S> {
+    stream: S,
     refused: Option<io::Error>,
 }
 
-impl<W: Write + Drop> Noting<W> {
+impl<S: Drop> Noting<S> {
     /// Nothing was refused yet.
-    pub fn new(writer: W) -> Noting<W> {
+    pub fn new(stream: S) -> Noting<S> {
         Noting {
-            writer,
+            stream,
             refused: None,
         }
     }
 
+    /// Why something was refused, if it was.
+    pub fn refused(&self) -> Option<io::Error> {
+        self.refused
+    }
+}
+
+impl<S: Write + Drop> Noting<S> {
     /// Hands the system what is left. Was that taken? And why was something refused, now or before?
     pub fn finish(mut self) -> (bool, Option<io::Error>) {
-        let left = self.writer.flush().err();
+        let left = self.stream.flush().err();
         (left.is_none(), self.refused.or(left))
     }
 }
 
-impl<W: Write> Write for Noting<W> {
+impl<S: Read> Read for Noting<S> {
+    fn read(&mut self, buf: &mut [u8]) -> io::Result<usize> {
+        let read = self.stream.read(buf);
+        if let Err(error) = read {
+            self.refused = Some(error);
+        }
+        read
+    }
+}
+
+impl<S: Write> Write for Noting<S> {
     fn write(&mut self, bytes: &[u8]) -> io::Result<usize> {
-        let written = self.writer.write(bytes);
+        let written = self.stream.write(bytes);
         if let Err(error) = written {
             self.refused = Some(error);
         }
@@ -192,6 +210,6 @@ impl<W: Write> Write for Noting<W> {
     }
 
     fn flush(&mut self) -> io::Result<()> {
-        self.writer.flush()
+        self.stream.flush()
     }
 }

@@ -1,7 +1,8 @@
 //! The recordings of a command: the files of each in their order, and what a command line says of them.
 use crate::interface::{chosen_in, refused_interfaces, start_of};
-use crate::refused::Refused;
+use crate::outcome::{Cause, Detail, Outcome};
 use crate::streams::Input;
+use crate::texts::text_in;
 use afdx_frame::Network;
 use command_line::{
     BETWEEN_FILES, CaptureArguments, CheckArguments, CutArguments, DebugArguments, Fault,
@@ -12,8 +13,8 @@ use pcapng::Choice;
 use std::alloc::AllocError;
 use std::fmt::Write;
 use std::fs::{File, Metadata};
-use std::io::Read;
 use std::os::unix::fs::MetadataExt;
+use std::sync::Mutex;
 use std::{fs, io};
 
 /// A file of a recording, and the interface that is read of it.
@@ -23,12 +24,22 @@ pub struct TapFile {
     pub choice: Choice,
 }
 
+/// Why a file of a recording can't be opened or read.
+#[derive(Clone, Copy)]
+pub struct TapFailure {
+    /// The number of the file.
+    pub number: usize,
+    pub cause: Cause,
+}
+
 /// A recording: one file after another. One that isn't given has none.
 #[derive(Drop)]
 pub struct Tap {
     pub files: Vec<TapFile>,
     /// The paths of the lists that name files of it.
     pub lists: Vec<String>,
+    /// What the thread that reads it met, for the one that tells of it.
+    failure: Mutex<Option<TapFailure>>,
 }
 
 /// The recordings of a command: that of network A, or its one recording, and that of network B.
@@ -38,19 +49,11 @@ pub struct Taps {
     b: Tap,
 }
 
-/// The most bytes of a list of a recording's files, as of any other text.
-const MAX_LIST: usize = 16_777_216;
-
 /// The list of a recording's files at a path.
-///
-/// # Errors
-///
-/// It can't be read, has more than 16777216 bytes (`FileTooLarge`), or isn't UTF-8.
-pub fn read_list(rt: &HostRuntime, path: &str) -> io::Result<String> {
-    let start = File::open(rt, path)?.take(MAX_LIST as u64 + 1);
-    let list = io::read_to_string(rt.alloc(), start)?;
-    if list.len() > MAX_LIST {
-        return Err(io::Error::from(io::ErrorKind::FileTooLarge));
+fn read_list(rt: &HostRuntime, path: &str) -> Result<String, Cause> {
+    let list = text_in(rt, Input::File(File::open(rt, path)?))?;
+    if list.trim().is_empty() {
+        return Err(Cause::NoPath);
     }
     Ok(list)
 }
@@ -85,6 +88,7 @@ impl Tap {
         let mut tap = Tap {
             files: Vec::new(rt.alloc()),
             lists: Vec::new(rt.alloc()),
+            failure: Mutex::new(None),
         };
         let Some(words) = words else {
             return Ok(tap);
@@ -108,12 +112,46 @@ impl Tap {
     /// Adds the list at a path, which a word names, and its files.
     fn add_list(&mut self, rt: &HostRuntime, word: &str, path: &str) -> Result<(), AllocError> {
         match read_list(rt, path) {
-            Ok(list) if !list.trim().is_empty() => {
+            Ok(list) => {
                 let path = String::from_str(rt.alloc(), path)?;
                 self.lists.push(path)?;
                 self.add_listed(rt, &list)
             }
-            Ok(_) | Err(_) => self.add(rt, word),
+            Err(cause) => {
+                self.note(TapFailure {
+                    number: self.files.len(),
+                    cause,
+                });
+                self.add(rt, word)
+            }
+        }
+    }
+
+    fn note(&self, failure: TapFailure) {
+        if let Some(mut noted) = self.failure.try_lock() {
+            *noted = Some(failure);
+        }
+    }
+
+    /// Notes why the file of this number can't be opened or read. That a list in its place can't be read says
+    /// more.
+    pub fn fails(&self, number: usize, error: io::Error) {
+        if self
+            .failure()
+            .is_none_or(|failure| failure.number != number)
+        {
+            self.note(TapFailure {
+                number,
+                cause: Cause::System(error),
+            });
+        }
+    }
+
+    /// Which file can't be opened or read, and why, if there is one.
+    pub fn failure(&self) -> Option<TapFailure> {
+        match self.failure.try_lock() {
+            Some(noted) => *noted,
+            None => None,
         }
     }
 
@@ -129,11 +167,6 @@ impl Tap {
     pub fn path_at(&self, number: usize) -> Option<&str> {
         let file = self.files.get(number).or(self.files.last())?;
         Some(file.path.as_str())
-    }
-
-    /// Are all its files regular ones, which may be read again?
-    pub fn is_of_regular_files(&self, rt: &HostRuntime) -> bool {
-        self.files.iter().all(|file| file.is_regular(rt))
     }
 
     /// Has it more than one file?
@@ -177,7 +210,7 @@ impl Taps {
         a: &Input,
         b: &Input,
         late: u64,
-    ) -> Result<[Option<u64>; 2], Refused> {
+    ) -> Result<[Option<u64>; 2], Outcome> {
         let a = self.a.look(rt, (FileOption::A, a), late)?;
         let b = self.b.look(rt, (FileOption::B, b), late)?;
         Ok([a, b])
@@ -256,16 +289,24 @@ impl TapFile {
         self.metadata(rt).is_some_and(|found| found.is_file())
     }
 
-    /// Looks at the file, if it is a regular one: a pipe's bytes are read once.
-    pub fn look(&self, rt: &HostRuntime, option: FileOption) -> Result<Option<Looked>, Refused> {
-        let Some(found) = self.metadata(rt) else {
-            return Err(Refused::from(Fault::File(option)));
-        };
-        if !found.is_file() {
-            return Ok(None);
+    /// Opens the file, if it is a regular one: a pipe's bytes are read once.
+    fn regular(&self, rt: &HostRuntime) -> io::Result<Option<(File, Metadata)>> {
+        let found = fs::metadata(rt, &self.path)?;
+        if found.is_file() {
+            Ok(Some((File::open(rt, &self.path)?, found)))
+        } else {
+            Ok(None)
         }
-        let Ok(file) = File::open(rt, &self.path) else {
-            return Err(Refused::from(Fault::File(option)));
+    }
+
+    /// Looks at the file, if it is a regular one.
+    pub fn look(&self, rt: &HostRuntime, option: FileOption) -> Result<Option<Looked>, Outcome> {
+        let opened = match self.regular(rt) {
+            Ok(opened) => opened,
+            Err(error) => return Err(Outcome::of_file(option, Cause::System(error))),
+        };
+        let Some((file, found)) = opened else {
+            return Ok(None);
         };
         self.refuse_absent(rt, option)?;
         let first = match TapReader::open(ReadSource::new(file), Network::A, 1, u64::MAX) {
@@ -284,12 +325,12 @@ impl TapFile {
 
     /// Refuses a regular file that begins with packets of several interfaces, if none is chosen, and one that
     /// doesn't have the one that is.
-    fn refuse_absent(&self, rt: &HostRuntime, option: FileOption) -> Result<(), Refused> {
+    fn refuse_absent(&self, rt: &HostRuntime, option: FileOption) -> Result<(), Outcome> {
         match refused_interfaces(rt, &self.path, self.choice) {
-            Some(listed) => Err(Refused {
-                source: Some(listed),
-                ..Refused::from(Fault::Interfaces(option))
-            }),
+            Some(listed) => {
+                let refused = Outcome::from(Fault::Interfaces(option));
+                Err(refused.with(Detail::Listed(listed)))
+            }
             None => Ok(()),
         }
     }
@@ -339,7 +380,7 @@ impl Tap {
         rt: &HostRuntime,
         (option, first): (FileOption, &Input),
         late: u64,
-    ) -> Result<Option<u64>, Refused> {
+    ) -> Result<Option<u64>, Outcome> {
         match self.files.as_slice() {
             [] => Ok(None),
             [file] => {
@@ -357,7 +398,7 @@ impl Tap {
         rt: &HostRuntime,
         option: FileOption,
         late: u64,
-    ) -> Result<Option<u64>, Refused> {
+    ) -> Result<Option<u64>, Outcome> {
         let mut sight = Sight {
             files: Vec::new(rt.alloc()),
             firsts: Vec::new(rt.alloc()),
@@ -372,15 +413,17 @@ impl Tap {
                 continue;
             };
             if sight.has(found.inode) {
-                let refused = Refused::from(Fault::Repeated(option));
+                let refused = Outcome::from(Fault::Repeated(option));
                 return Err(refused.at(option, number));
             }
             sight.add(number, found, late)?;
         }
         if !sight.is_in_order {
-            return Err(Refused {
-                source: self.by_time(rt, sight.firsts),
-                ..Refused::from(Fault::Order(option))
+            return Err(Outcome {
+                detail: self
+                    .by_time(rt, sight.firsts)
+                    .map(|listed| Detail::Listed(listed)),
+                ..Outcome::from(Fault::Order(option))
             });
         }
         if sight.files.len() < self.files.len() {

@@ -1,4 +1,4 @@
-use Rattle.command_line.proofs.Given.{no_number, number_is}
+use Rattle.command_line.proofs.Numerals.{no_number, number_is}
 use Rattle.command_line.proofs.moment.parse_digits.Goals as goal
 
 pub returns-in-Ok : goal.returns-in-Ok

@@ -1,0 +1,6 @@
+-- Whether a run would be sound (this project's profile): nothing is refused, no recording is left in its middle, and no question is asked.
+use Rattle.std.specs.Prelude.{ℕ, ◌+◌, Bool, ◌==◌}
+use Rattle.check_answer.specs.declared.verdict.Verdict.{Verdict}
+
+abbrev pub is_sound : Verdict → Bool
+is_sound verdict = verdict.faults + verdict.questions == 0
