@@ -4,8 +4,8 @@
 #   make test      runs the tests of the program, in minutes
 #   make install   installs bin/afdxmon, its man pages, completions, plugin for Wireshark, documents and examples below
 #                  PREFIX (/usr/local), in DESTDIR where that is given; make uninstall removes them
-#   make dist      packs them as a tarball in dist/, which is unpacked anywhere; make deb packs them for Debian. The same
-#                  bytes come of the same commit
+#   make dist      packs them as a tarball in dist/, which is unpacked anywhere; make deb packs them for Debian and its kin,
+#                  make rpm for Red Hat, SUSE and theirs. The same bytes come of the same commit
 #   make completions  writes the completions and the synopsis of afdxmon(1), which follow from the program's help
 #   make manuals   writes afdxmon-table(5) and afdxmon-ledger(5), which have the text of docs/TABLE.md and docs/LEDGER.md
 #   make pictures  makes docs/*.png from the flight in examples/ (needs chromium, pngquant, wireshark, xvfb, xdotool, imagemagick,
@@ -13,8 +13,10 @@
 #   make bench     beside tcpdump, mergecap and libpcap (needs tcpdump, wireshark-common, libpcap-dev, gcc and python3; not
 #                  part of the gate)
 #
-# They need python3 and libc, and take bin/afdxmon out of release/, where that was made of the sources that are here; else
-# they build it first. What follows needs the Rattle toolchain, whose command is rt:
+# They take bin/afdxmon out of release/, where that was made of the sources that are here; else they build it first. make demo
+# and make install need a POSIX shell, coreutils and gzip; make test needs python3, and says at its end what each part that it
+# skipped lacked; make dist needs git and tar, make deb dpkg-deb, make rpm rpmbuild. What follows needs the Rattle toolchain,
+# whose command is rt, and python3:
 #
 #   make build     proves the crates that the program stands on, and leaves it at bin/afdxmon
 #   make prove     the gate of proofs: proves every crate and its tests from nothing, tries the must-fail edits, runs the
@@ -24,7 +26,7 @@
 #
 # The parts of make test and make check:
 #   make program      the program's status, lines and files
-#   make package-test   installs the program in each way into empty directories, and runs it there (needs dpkg)
+#   make package-test   installs the program in each way into empty directories, and runs it there (needs dpkg and rpm)
 #   make wireshark-test   the plugin for Wireshark, in tshark (needs tshark, editcap and mergecap)
 #   make fleet-test   many flights, by GNU parallel and by Slurm, and their ledgers in SQLite and PostgreSQL (needs parallel,
 #                     slurmctld, slurmd, munged, sqlite3 and a PostgreSQL server: a part without its tools is skipped)
@@ -38,16 +40,16 @@
 RT ?= rt
 PREFIX ?= /usr/local
 
-.PHONY: demo test build prove release check bench install uninstall dist deb package-test wireshark-test fleet-test \
+.PHONY: demo test build prove release check bench install uninstall dist deb rpm package-test wireshark-test fleet-test \
 	release-test program mutants mutants-of-the-program further-tests allocations borrows completions manuals pictures toolchain python3 bin/afdxmon
 
 demo: bin/afdxmon
 	@examples/demo bin/afdxmon bin
 
-test: bin/afdxmon
+test: python3 bin/afdxmon
 	@tests/run
 
-bin/afdxmon: python3
+bin/afdxmon:
 	@tools/unpack
 
 build: python3 toolchain
@@ -79,7 +81,7 @@ install: bin/afdxmon
 uninstall:
 	@DESTDIR='$(DESTDIR)' PREFIX='$(PREFIX)' tools/install --uninstall
 
-dist deb: bin/afdxmon
+dist deb rpm: bin/afdxmon
 	@tools/package $@
 
 package-test: bin/afdxmon

@@ -89,9 +89,15 @@ def table(path):
 
 
 def report(path):
-    """The links of `afdxmon report --json`: a row for each identifier, with a column for each number, as `a.lost` or `signs.gap`."""
+    """The links of `afdxmon report --json`: a row for each identifier, with a column for each number, as `a.frames` or `lost_both`."""
     with open(path, encoding="utf-8") as text:
         return pandas.json_normalize(json.load(text)["links"]).set_index("id").sort_index()
+
+
+def findings(path):
+    """The findings of `afdxmon report --json`, worst first, with a column for each sign, as `signs.lost.A`."""
+    with open(path, encoding="utf-8") as text:
+        return pandas.json_normalize(json.load(text)["findings"])
 
 
 def excess(frames, window="1s"):

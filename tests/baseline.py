@@ -1,7 +1,7 @@
 """`afdxmon report --baseline`: two flights compared, with changes that are planted, against a slow comparison in fractions.
 
-A flight is written by `afdxmon watch` on recordings that are made here; its numbers come from tests/report_reference.py, and what
-got worse from the rule of docs/REPORT.md in exact fractions.
+A flight is written by `afdxmon watch` on recordings that are made here; its numbers are those that the report of its ledger alone has, and
+what got worse comes from the rule of docs/REPORT.md in exact fractions.
 """
 import html
 import json
@@ -15,7 +15,6 @@ from fractions import Fraction
 
 from harness import FAULT, PROGRAM, SUCCESS, ended, frame, run, run_at_terminal, say
 from report import ledger_in, table_of
-from report_reference import reference
 from texts import advice_on
 
 COUNTS = ["lost_both", "excess", "toolong", "late", "lost", "out", "alone", "repeat", "reset"]
@@ -24,6 +23,11 @@ SENTENCES = {"lost_copies": "Lost its copies since the baseline", "new": "New si
 SENTENCES |= {word: f"More {word} than in the baseline" for word in COUNTS if word != "lost_both"}
 MS = 10**6
 OUTSIDE = 5000
+
+
+def reference(table, ledger):
+    """The numbers of one flight."""
+    return json.loads(run(["report", "--config", table, "--ledger", ledger, "--json"], stdout=subprocess.PIPE).stdout)
 
 
 # ---- the comparison, by its definition

@@ -11,7 +11,7 @@ import subprocess
 import tempfile
 
 import pairs
-from harness import EVERY, FAULT, FIRST_64, SUCCESS, PROGRAM, difference, frame, header, record, run, say
+from harness import EVERY, FAULT, FIRST_64, SUCCESS, difference, frame, header, record, run, say
 from reference import FILE_STARTS, HEADER, disorder, parse, record_of
 from texts import ADVICE
 from watching import TABLE
@@ -275,14 +275,15 @@ def listed(data):
     return ", ".join(" ".join(filter(None, one)) for one in words) or "none of Ethernet"
 
 
-def note_of(ending, skipped, network=None, late=""):
-    """What standard error is told, of a file with how late a frame was."""
+def note_of(ending, skipped, network=None, late=0):
+    """What standard error is told, of a timestamp out of order by how many nanoseconds."""
     who = "recording" if network is None else f"recording of network {network}"
     lines = []
     how, count, *reason = ending.split()
     if how != "clean":
         why = REASONS[reason[0]] if reason else "truncated within a record"
-        lines.append(f"afdxmon: note: {who} ends {how} after {count} frame{'' if count == '1' else 's'}: {why}{late}")
+        why += disorder("capture", late) if reason == ["stampback"] else ""
+        lines.append(f"afdxmon: note: {who} ends {how} after {count} frame{'' if count == '1' else 's'}: {why}")
     if skipped:
         lines.append(f"afdxmon: note: {who} has {skipped} packet{'' if skipped == 1 else 's'} not of Ethernet")
     return "\n".join(lines)
@@ -307,9 +308,8 @@ class Bench:
         expected = HEADER + b"".join(record_of(*one) for one in frames)
         path = self.put("in.pcapng", data)
         suffix = "" if choice is None else f":{choice}"
-        told = note_of(ending, skipped)
-        late = disorder("capture", reader.late) if ending.endswith("stampback") else ""
-        of_file, of_stream = (SUCCESS, note_of(ending, skipped, late=late), expected), (SUCCESS, told, expected)
+        told = note_of(ending, skipped, late=reader.late)
+        of_file = of_stream = (SUCCESS, told, expected)
         if ending.endswith("nosuchinterface"):
             # A file is looked at first; of a stream it shows at the end.
             of_file, of_stream = (FAULT, f"afdxmon: interfaces RECORDING: {listed(data)}", b""), (FAULT, told, expected)
@@ -470,10 +470,11 @@ def beside_a_dash(bench):
     late = plain().packet(SECOND * 10**9 + 5000, DATA[0]).packet(SECOND * 10**9, DATA[1])
     for name, data in (("in order", four(plain(), 10**9).bytes()), ("out of order", late.bytes())):
         for word, choice in (("-", None), ("-:0", 0), ("-:eth0", "eth0")):
-            frames, ending, skipped = Reader(choice).read(data)
+            reader = Reader(choice)
+            frames, ending, skipped = reader.read(data)
             ran = run(["capture", "--code", EVERY, "--", word], cwd=bench.directory, input=data, stdout=subprocess.PIPE)
             expected = HEADER + b"".join(record_of(*one) for one in frames)
-            say(f"pcapng: {word} beside a file -, {name}", difference(ran, SUCCESS, note_of(ending, skipped), expected))
+            say(f"pcapng: {word} beside a file -, {name}", difference(ran, SUCCESS, note_of(ending, skipped, late=reader.late), expected))
     ran = run(["capture", "--code", EVERY, "./-"], cwd=bench.directory, stdin=subprocess.DEVNULL, stdout=subprocess.PIPE)
     say("pcapng: ./- is the file", difference(ran, FAULT, "afdxmon: interfaces RECORDING: 0 eth0, 2 eth1", b""))
 

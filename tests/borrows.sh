@@ -1,11 +1,9 @@
 #!/usr/bin/env bash
-# A frame lends its body and does not copy it, so nobody can keep the body beyond the frame; and a
-# round lends its frames to its workers, so no worker can keep them beyond the round.
+# A frame lends its body and does not copy it, so nobody can keep the body beyond the frame.
 #
 # Makes a crate outside the repository, over a copy of afdx_frame, and has the toolchain read it
 # twice: with a use of the body while the frame lives, which must be accepted, and with one that
-# outlives the frame, which the borrow checker must refuse with its error of lifetimes. Then it does
-# the same with a copy of filter_workers, and with one whose workers aren't threads of the scope.
+# outlives the frame, which the borrow checker must refuse with its error of lifetimes.
 set -euo pipefail
 
 top=$(cd "$(dirname "$0")/.." && pwd)
@@ -65,39 +63,3 @@ if ! refusal=$(grep -i 'error\[borrow-e0597\].*kept' <<< "$said"); then
     exit 1
 fi
 printf 'borrows: a body kept beyond its frame is refused: %s\n' "$refusal"
-
-# The crates below filter_workers, and the crate itself, as they are here.
-for crate in bpf_isa bpf_loader bpf_machine frame_batch filter_workers; do
-    mkdir -p "$work/crates/$crate"
-    for folder in src specs proofs out; do
-        if [ -d "$top/crates/$crate/$folder" ]; then
-            cp -r "$top/crates/$crate/$folder" "$work/crates/$crate/"
-        fi
-    done
-done
-grep -E '^(afdx_frame|frame_batch|bpf_isa|bpf_loader|bpf_machine|filter_workers)[ :]' "$top/crates.txt" > "$work/crates.txt"
-cp "$top/HANDLES" "$work/HANDLES"
-
-# Has the toolchain read the copy of filter_workers without proving it.
-read_workers() {
-    status=0
-    said=$(cd "$work/crates/filter_workers" && rt check --only= 2>&1) || status=$?
-}
-
-read_workers
-if [ "$status" -ne 0 ]; then
-    printf 'borrows: FAILED, workers in a scope were refused:\n%s\n' "$said"
-    exit 1
-fi
-sed -i 's/scope\.spawn_with(promise, upper)/thread::spawn_with(rt, promise, upper)/' "$work/crates/filter_workers/src/round.rt"
-read_workers
-if [ "$status" -eq 0 ]; then
-    printf 'borrows: FAILED, a worker that may outlive its round was accepted\n'
-    exit 1
-fi
-# A borrow that has to last for ever, and doesn't.
-if ! refusal=$(grep -i 'src/round.rt.*error\[borrow' <<< "$said" | head -n 1); then
-    printf 'borrows: FAILED, a worker that may outlive its round was refused for another reason:\n%s\n' "$said"
-    exit 1
-fi
-printf 'borrows: a worker that may outlive its round is refused: %s\n' "$refusal"

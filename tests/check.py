@@ -496,6 +496,19 @@ def file_of(frames, shift=0, layout="<", unit=1):
     return header(layout, magic) + b"".join(record((stamp + shift) // unit * unit, data, layout, unit) for stamp, data in frames)
 
 
+def met(links, by):
+    """Both networks' frames, 40 of each link: that of the link at a place with a number comes so many nanoseconds later on B."""
+    taps = {"A": [], "B": []}
+    for place, link in enumerate(links):
+        for number in range(1, 41):
+            at = START + place * 10_000 + number * 8 * MS
+            for network, mark, stamp in (("A", 0x20, at), ("B", 0x40, at + by(place, number))):
+                data = bytearray(frame(link["id"], 80, number))
+                data[11] = mark
+                taps[network].append((stamp, bytes(data)))
+    return [file_of(sorted(taps[network])) for network in "AB"]
+
+
 def pairs():
     """Tables and pairs of recordings, by name: links, A and B."""
     chance = random.Random(31)
@@ -515,6 +528,12 @@ def pairs():
         mixed = [{**link, "skew_us": 5000 if k < wide else 2000} for k, link in enumerate(nine)]
         for shift in (2_500_000, -2_500_000, 5_500_000):
             yield f"the clock of B {shift} ns ahead, {wide} of 9 links with a SkewMax of 5 ms", mixed, file_of(a9), file_of(b9, shift)
+    even = sorted(({**link, "redundancy": True, "smax": 500} for link in links), key=lambda one: one["id"])
+    yield "first copies that come by SkewMax later, and the others by more", even, *met(even, lambda place, number: MS + (number > 1))
+    for few in (2, 3, 4):
+        yield f"{few} of 6 links tell another difference of clocks", even, *met(even, lambda place, number: (90 if place < few else 30) * MS)
+    for name, shift in (("last frame of B", a[0][0] - b[-1][0]), ("first frame of B", a[-1][0] - b[0][0])):
+        yield f"the {name} at the time of A's", links, file_of(a), file_of(b, shift)
     yield "no overlap, and other frames", links, file_of(a), file_of(sent(random.Random(5), links, 40)[1], 10**12)
     yield "network A alone", links, file_of(a), None
     yield "network B alone", links, None, file_of(b)
@@ -534,6 +553,11 @@ def pairs():
     yield "60 links, of which the table has 30", many[:30], file_of(a2), file_of(b2)
     yield "60 links that no frame names", many, file_of([]), file_of(a[:1])
     yield "another constant field", links, *(file_of(tap) for tap in sent(chance, links, 20, first=7))
+    odd = ([(stamp, bytes([7 if k % 2 else 11]) + data[1:]) for k, (stamp, data) in enumerate(tap)] for tap in (a, b))
+    yield "two other constant fields, equally often", links, *(file_of(tap) for tap in odd)
+    for lacking in (6, 7):
+        whole = ([(stamp, data[:-4] if 64 - lacking <= k < 64 else data) for k, (stamp, data) in enumerate(tap)] for tap in sent(chance, links, 30, check=True))
+        yield f"check sequences, which {lacking} of the first 64 frames lack", links, *(file_of(tap) for tap in whole)
     yield "check sequences", links, *(file_of(tap) for tap in sent(chance, links, 30, check=True))
     yield "check sequences on network A", links, file_of(sent(chance, links, 30, check=True)[0]), file_of(b)
     yield "frames longer than Smax", [{**link, "smax": 64} for link in links], *(
@@ -542,6 +566,8 @@ def pairs():
     yield "a recording that is cut short", links, file_of(a)[:-7], file_of(b)
     yield "a frame out of order", links, file_of(a) + record(a[0][0], a[0][1]), file_of(b)
     yield "frames that aren't whole", links, file_of(a), file_of(b) + record(b[-1][0], frame(9, 60, 1), original=100)
+    held = b"".join(record(stamp, data[: 58 - 10 * (k % 4)], original=len(data)) for k, (stamp, data) in enumerate(b))
+    yield "frames cut short at several lengths", links, file_of(a), header() + held
     for frames, cut in ((99, 1), (100, 1), (100, 2), (199, 1), (199, 2), (200, 2), (200, 3)):
         tap = sent(chance, links, 100)[1][:frames]
         held = b"".join(record(stamp, data[:50 if k < cut else None], original=len(data)) for k, (stamp, data) in enumerate(tap))
@@ -578,13 +604,16 @@ def of_disorder(work):
         (10**9 + 1, " by 1.000 s"),
     ):
         stamps = (START, START + 2 * 10**9, START + 2 * 10**9 - late, START + 3 * 10**9)
-        write(path, header() + b"".join(record(stamp, frame(5, 60, i + 1)) for i, stamp in enumerate(stamps)))
+        recording = header() + b"".join(record(stamp, frame(5, 60, i + 1)) for i, stamp in enumerate(stamps))
+        write(path, recording)
         for window in (0, -(-late // 1000)):
             write(config, toml_of(links, late=min(window, 10**6)))
             line = "" if 0 < window <= 10**6 else f"fault: of network A no frame is read after 2 frames: timestamp out of order{told}\n"
-            ran = asked("--config", config, "--a", path)
-            found = "".join(line + "\n" for line in ran.stdout.decode().splitlines() if line.startswith("fault: "))
-            say(f"check: a frame late by {late} ns, late_us {window}", "" if found == line and ran.returncode == (FAULT if line else SUCCESS) else ran.stdout.decode())
+            for what, a, how in (("a file", path, {}), ("a pipe", "-", {"input": recording})):
+                ran = asked("--config", config, "--a", a, **how)
+                found = "".join(line + "\n" for line in ran.stdout.decode().splitlines() if line.startswith("fault: "))
+                fits = found == line and ran.returncode == (FAULT if line else SUCCESS)
+                say(f"check: a frame late by {late} ns, late_us {window}, of {what}", "" if fits else ran.stdout.decode())
 
 
 def of_inputs(work):

@@ -100,8 +100,8 @@ def facts():
     """What a reader looks up: of each kind where it stands in the program's sources, and in which page it has to stand."""
     faults = found_in(r'"(\d [A-Z]\w*(?: \d [A-Z]\w*)?(?: \w+)?)"', "command_line", "src") - UNTOLD
     say("documents: each fault", lacks(faults, "MESSAGES.md TABLE.md DEBUGGER.md", r"`[^`\n]*\bWORD\b"))
-    say("documents: each ending's word", lacks(found_in(r'BadReason::\w+ => "([a-z]+)"', "pcap_io", "src"), "FORMATS.md", r"bad\(n, WORD\)"))
-    say("documents: each ending's message", lacks(found_in(r'BadReason::\w+ => "([^"]+)"', "command_line", "src", "message.rt"), "MESSAGES.md FORMATS.md", "WORD"))
+    say("documents: each ending's word", lacks(found_in(r'BadReason::\w+(?: { .. })? => "([a-z]+)"', "pcap_io", "src"), "FORMATS.md", r"bad\(n, WORD\)"))
+    say("documents: each ending's message", lacks(found_in(r'BadReason::\w+(?: { .. })? => "([^"]+)"', "command_line", "src", "message.rt"), "MESSAGES.md FORMATS.md", "WORD"))
     say("documents: each key", lacks(found_in(r'Key::\w+ => "(\w+)"', "vl_config", "src"), "TABLE.md", r"\n\| `WORD` "))
     words = {
         word
@@ -109,6 +109,9 @@ def facts():
         for word in found_in(rf'{kind}::\w+ => "(\w+)"', crate, "src")
     }
     say("documents: each word of a verdict", lacks(words, "LEDGER.md", r"\n\| `WORD` "))
+    # Of a gap, and of what is early or in excess, it is decided what it is.
+    kinds = found_in(r'Kind::\w+ => "([a-z ]+)"', "findings", "src", "kind.rt") - {"gap", "early", "excess"}
+    say("documents: each kind of finding", lacks(kinds, "REPORT.md", "`WORD`"))
 
 
 def members_of(value):
@@ -131,7 +134,7 @@ def members():
             ("MESSAGES.md", ["check", "--config", wrong, "--a", a, "--json"]),
         ):
             ran = subprocess.run([PROGRAM, *command], stdout=subprocess.PIPE, stderr=subprocess.DEVNULL, timeout=60)
-            say(f"documents: each member of {' '.join(command[:1] + command[-1:])}", lacks(members_of(json.loads(ran.stdout)), page))
+            say(f"documents: each member of {' '.join(command[:1] + command[-1:])}", lacks({name.split(".")[0] for name in members_of(json.loads(ran.stdout))}, page))
 
 
 def cases():

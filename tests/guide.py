@@ -1,4 +1,5 @@
 """The commands of README, docs/GUIDE.md, docs/FILTERS.md and the man pages do what stands there, and what is said beside them is so."""
+import glob
 import os
 import re
 import shutil
@@ -7,10 +8,9 @@ import subprocess
 import tempfile
 import time
 
-from analyser import watch
-from harness import EVERY, PROGRAM, SUCCESS, TOP, difference, frame, header, judge, run, say, skip
+from harness import EVERY, PROGRAM, SUCCESS, TOP, difference, frame, header, judge, read, run, say, skip
 from reference import HEADER, frames_of, record_of
-from watching import TABLE, Desk, read, tap
+from watching import TABLE, Desk, tap
 
 # The interpreter for which Debian's packages are.
 DEBIAN_PYTHON = "/usr/bin/python3"
@@ -53,7 +53,7 @@ def page_in(directory, page):
     absent = set()
     for command, printed in commands_of(page):
         name = f"{page}: {' '.join(command.split())[:100]}"
-        why = missing_for(command, absent)
+        why = missing_for(command, absent, directory)
         if why:
             absent.update(WRITTEN.findall(command))
             skip(name, why)
@@ -100,13 +100,14 @@ def session():
     judge("docs/DEBUGGER.md: its files", ran, SUCCESS, "", b"frames 3\ntally accepted 0 rejected 3\n")
 
 
-def missing_for(command, absent):
+def missing_for(command, absent, directory):
     """Why a command can't be run: a tool that isn't here, or a file that a command which was skipped would have written."""
     tool = missing_tool(command)
     if tool:
         return f"no {tool} here"
     file = next((file for file in sorted(absent) if re.search(rf"(?<![\w.-]){re.escape(file)}(?![\w.-])", command)), None)
-    return file and f"no {file} here"
+    pattern = next((word for word in command.split() if re.fullmatch(r"[\w.]*\*[\w.*]*", word) and not glob.glob(word, root_dir=directory)), None)
+    return file and f"no {file} here" or pattern and f"no {pattern} here"
 
 
 def missing_tool(command):

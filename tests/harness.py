@@ -1,14 +1,17 @@
 """What the tests of the program share: running it, comparing what it leaves, and building recordings.
 
-The program is the first argument, bin/afdxmon by default.
+The program is the first argument, bin/afdxmon by default. Of the environment: AFDXMON_CASE, a word that the names of the cases have
+that count; AFDXMON_KEEP, whether the folders of cases stay; AFDXMON_FIRST_FAILURE, whether the first failure ends a run.
 """
 import os
 import pty
 import random
+import shlex
 import shutil
 import struct
 import subprocess
 import sys
+import tempfile
 
 HERE = os.path.dirname(os.path.abspath(__file__))
 TOP = os.path.dirname(HERE)
@@ -19,8 +22,10 @@ FIRST_64 = "1,6 0 0 64,"
 # ld len, sub #1, tax, ldb [x + 0], jset #1, ret #-1, ret #0: an odd sequence number, the last byte of each frame
 ODD = "7,128 0 0 0,20 0 0 1,7 0 0 0,80 0 0 0,69 0 1 1,6 0 0 4294967295,6 0 0 0,"
 USAGE, FAULT, SUCCESS = 2, 1, 0
-results = {"passed": 0, "failed": 0}
+results = {"passed": 0, "failed": 0, "part": None}
 patience = {"seconds": 60}
+if os.environ.get("AFDXMON_KEEP"):
+    tempfile.TemporaryDirectory.cleanup = lambda self: self._finalizer.detach()
 
 
 def record(stamp, data, layout="<", unit=1, original=None):
@@ -36,6 +41,21 @@ def header(layout="<", magic=0xA1B23C4D, version=(2, 4), link_type=1):
     return struct.pack(layout + "IHHIIII", magic, *version, 0, 0, 262144, link_type)
 
 
+def read(*path):
+    """The bytes of a file."""
+    with open(os.path.join(*path), "rb") as given:
+        return given.read()
+
+
+def put(*parts):
+    """Writes a file, whose path the parts but the last are, with the folders that it stands in. Its path."""
+    *path, data = parts
+    os.makedirs(os.path.dirname(os.path.join(*path)), exist_ok=True)
+    with open(os.path.join(*path), "wb") as out:
+        out.write(data.encode() if isinstance(data, str) else data)
+    return os.path.join(*path)
+
+
 def recording(frames, layout="<", unit=1, sizes=(60, 1514)):
     """Frames of many links, of random sizes and bytes."""
     chance, out, stamp = random.Random(7), [header(layout, 0xA1B23C4D if unit == 1 else 0xA1B2C3D4)], 10**18
@@ -47,9 +67,20 @@ def recording(frames, layout="<", unit=1, sizes=(60, 1514)):
     return b"".join(out)
 
 
+def again(name):
+    """The command that runs a case again, and keeps its files."""
+    script = os.path.join(HERE, "program") if results["part"] else os.path.abspath(sys.argv[0])
+    words = [script, PROGRAM, results["part"], "-k", name, "--keep"] if results["part"] else [script]
+    return shlex.join(words)
+
+
 def say(name, fault):
+    if os.environ.get("AFDXMON_CASE", "") not in name:
+        return
     results["failed" if fault else "passed"] += 1
     print(f"program: {name}: {'FAILED: ' + fault if fault else 'ok'}", flush=True)
+    if fault:
+        print(f"program: again by: {again(name)}", flush=True)
     if fault and os.environ.get("AFDXMON_FIRST_FAILURE"):
         print(f"{results['passed']} passed, {results['failed']} failed")
         sys.exit(1)
@@ -60,8 +91,26 @@ def skip(name, why):
     print(f"program: {name}: skipped: {why}", flush=True)
 
 
+def command_of(ran):
+    """The command of a run, as a shell takes it. What it was given on standard input stands in a file where folders are kept."""
+    words, given = shlex.join(map(str, ran.args)), getattr(ran, "given", None)
+    if given and os.environ.get("AFDXMON_KEEP"):
+        with tempfile.NamedTemporaryFile(prefix="standard_input_", delete=False) as file:
+            file.write(given if isinstance(given, bytes) else given.encode())
+        words += f" < {file.name}"
+    elif given:
+        words += f" < ({len(given)} bytes)"
+    where = getattr(ran, "folder", None)
+    return f"cd {shlex.quote(str(where))} && {words}" if where else words
+
+
 def difference(ran, status, line, out=None):
-    """How a run differs from the status, the whole of standard error and, where it is given, standard output."""
+    """How a run differs from the status, the whole of standard error and, where it is given, standard output; and its command."""
+    fault = how_it_differs(ran, status, line, out)
+    return f"{fault}; the command: {command_of(ran)}" if fault else ""
+
+
+def how_it_differs(ran, status, line, out):
     told = ran.stderr.decode("utf-8", "replace")
     if ran.returncode != status:
         return f"status {ran.returncode}, not {status}; {told!r}"
@@ -80,11 +129,13 @@ def judge(name, ran, status, line, out=None):
 def ended(command, **how):
     """Runs a command to its end. One that goes on for a minute is ended, which its status says; later ones have less time."""
     try:
-        return subprocess.run(command, timeout=patience["seconds"], **how)
+        ran = subprocess.run(command, timeout=patience["seconds"], **how)
     except subprocess.TimeoutExpired as late:
         status = f"none within {patience['seconds']} seconds"
         patience["seconds"] = 10
-        return subprocess.CompletedProcess(command, status, late.stdout or b"", late.stderr or b"")
+        ran = subprocess.CompletedProcess(command, status, late.stdout or b"", late.stderr or b"")
+    ran.given, ran.folder = how.get("input"), how.get("cwd")
+    return ran
 
 
 def run(arguments, program=PROGRAM, **how):

@@ -1,5 +1,5 @@
-"""What `afdxmon report` and `check` call healthy, and what they don't: faults that are planted in sound flights are named, and
-sound flights have no finding.
+"""What `afdxmon report` and `check` call healthy: sound flights have no finding and no question, and what is planted in them is asked
+about by `check`. What a report finds is in tests/findings.py; here is how it says so, on the page and at a terminal.
 
 What is wrong is known from the planting; the numbers of each report are also those of tests/report_reference.py.
 """
@@ -7,13 +7,13 @@ import json
 import os
 import random
 import re
+import shlex
 import subprocess
 import tempfile
 
 import flights
-import report_reference
-from flights import MS, SECOND, WHOLE, flight_of, link, periodic, sporadic, table_of, without
-from harness import EVERY, PROGRAM, SUCCESS, frame, run, run_at_terminal, say
+from flights import SECOND, WHOLE, flight_of, link, periodic, table_of, without
+from harness import EVERY, PROGRAM, SUCCESS, run, say
 from report import numbers_fault
 
 SOUND_FLIGHTS = 50
@@ -45,17 +45,11 @@ class Judged:
     def json(self):
         return json.loads(self.report("--json"))
 
-    def link(self, number):
-        return next(one for one in self.json()["links"] if one["id"] == number)
-
     def findings(self):
         """The sentences of what to look at first, as a reader has them."""
         page = self.report()
         listed = page[page.index("What to look at first") :]
-        return [words_of(one) for one in re.findall(r"<li>(.*?)</li>", listed[: listed.index("</ol>")])]
-
-    def tile(self, name):
-        return words_of(re.search(f"<h3>{name}</h3>(.*?)</div>", self.report())[1])
+        return [words_of(one) for one in re.findall(r"<li>(.*?)<details>", listed[: listed.index("</ol>")])]
 
     def terminal(self):
         ran = subprocess.run(["script", "-qec", f"'{PROGRAM}' report --config '{self.path['t.toml']}' --ledger '{self.path['v.ledger']}'",
@@ -72,15 +66,6 @@ def words_of(html):
     for old, new in (("&#8239;", ""), ("&#181;", "u"), ("&#183;", "|"), ("&#8211;", "-")):
         text = text.replace(old, new)
     return " ".join(text.split())
-
-
-def named(found, *words):
-    """A sentence has all of these words."""
-    return any(all(word in one for word in words) for one in found)
-
-
-def seconds(stamp):
-    return (int(stamp) - flights.START) / SECOND
 
 
 def near(found, wanted, by=0.01):
@@ -103,158 +88,43 @@ def expect(name, judged, *claims):
     say(f"healthy: {name}", fault)
 
 
-# ---- links that aren't delivered
-
-def links_with_gaps(folder):
-    chance = random.Random(1)
-    flight = sending(chance, 60 * SECOND, [(1, 32, periodic, "AB"), (2, 64, periodic, "AB"), (3, 128, periodic, "AB"), (4, 4, sporadic, "AB"),
-                                           (5, 128, periodic, "AB"), (6, 32, periodic, "AB")])
-    flight = without(flight, lambda n, at, l: l in (1, 4) and at >= 30 * SECOND or l in (2, 3) and 20 * SECOND <= at < 22 * SECOND)
-    judged = Judged(folder, flight)
-    found, shown = judged.findings(), judged.terminal()
-    one, two, three = judged.link(1), judged.link(2), judged.link(3)
-    claims = [(named(found, "Not delivered to the end", "link_1 for 30s", "from 29.98"), "a link stops"),
-              (named(found, "Not delivered to the end", "link_4"), "a sporadic link stops"),
-              (named(found, "Not delivered (gap)", "link_2 for 2.18s from 19.9", "usual 62.9ms, BAG 64ms"), "a link is silent"),
-              (named(found, "Not delivered (gap)", "link_3 for 2.18s", "usual 126ms"), "a slow link is silent"),
-              (one["level"] == "trouble" and one["gap"] is None and 29.9 < seconds(one["stop"]["from"]) < 30, "stop"),
-              (two["level"] == "trouble" and two["stop"] is None and 19.8 < seconds(two["gap"]["from"]) < 20 and
-               22 <= seconds(two["gap"]["to"]) < 22.2 and three["gap"] is not None, "gap"),
-              (all(judged.link(i)["level"] == "clean" and not judged.link(i)["gap"] for i in (5, 6)), "the others are clean"),
-              (re.search(r"trouble +1 link_1 .* gap (29\.9|30\.0)\d+ s from 29\.9\d+ s", shown) is not None, f"terminal: {shown}"),
-              (re.search(r"trouble +2 link_2 .* gap 2\.\d+ s from 19\.9\d+ s", shown) is not None, f"terminal: {shown}")]
-    expect("links that stop or are silent for 2 s on both networks", judged, *claims)
-
-
-def three_outages(folder):
-    """Up to three gaps are told of as such; a fourth makes them the link's habit."""
-    for count in (1, 2, 3, 4):
-        flight = sending(random.Random(2), 20 * SECOND, [(1, 16, periodic, "AB"), (2, 16, periodic, "AB")])
-        flight = without(flight, lambda n, at, l: l == 1 and any(4 * i * SECOND <= at < (4 * i + 1) * SECOND for i in range(1, count + 1)))
-        judged = Judged(folder, flight)
-        expect(f"{count} gaps of a second", judged, ((judged.link(1)["gap"] is not None) == (count < 4), "gap"))
-
-
-# ---- silences
-
-def silences(folder):
-    rows = [(i, 8, periodic, "AB") for i in range(1, 5)] + [(5, 16, sporadic, "AB")]
-    whole = sending(random.Random(3), 20 * SECOND, rows)
-    for name, gone in (("both networks", "AB"), ("network A", "A")):
-        judged = Judged(folder, without(whole, lambda n, at, l, gone=gone: n in gone and 8 * SECOND <= at < 13 * SECOND))
-        found, told, shown, tile = judged.findings(), judged.json(), judged.terminal(), judged.tile("Lost numbers")
-        missing = {n: [one[n]["missing_in_silences"] for one in told["links"]] for n in "ab"}
-        words = "Neither network has a frame" if gone == "AB" else "Network A silent"
-        claims = [(named(found, words, "for 5s, from 7.99", "about 2500 numbers of the links", "of 1 link the rate isn't known"), "a finding"),
-                  (all(near(n, 625) for n in missing["a"][:4]) and missing["a"][4] is None, f"missing: {missing}"),
-                  (missing["b"] == ([0] * 5 if gone == "A" else missing["a"]), f"missing on B: {missing}"),
-                  (all(one["lost_both"] == 0 and not one["gap"] and one["level"] == "clean" for one in told["links"]), "links are clean"),
-                  ("0/0" in tile and re.search(r"in them about 25\d\d/" if gone == "AB" else r"in them about 25\d\d/0", tile) is not None and
-                   "in them at least" in tile, f"tile: {tile}"),
-                  (("networks A and B" if gone == "AB" else "network A") + " silent from 7.99" in shown, f"terminal: {shown}")]
-        expect(f"{name} without a frame for 5 s", judged, *claims)
-
-
-def networks_that_end(folder):
-    flight = sending(random.Random(4), 20 * SECOND, [(i, 16, periodic, "AB") for i in range(1, 4)])
-    judged = Judged(folder, without(flight, lambda n, at, l: n == "A" and at >= 15 * SECOND))
-    expect("a recorder that stops", judged, (named(judged.findings(), "Network A has no frame after 14.9", "before the last one on B"), "a finding"),
-           ("network A has no frame after 14.9" in judged.terminal(), "terminal"))
-
-
-def losses_of_a_link(folder):
-    """A link is missing on one network for so long that its numbers come again."""
-    flight = sending(random.Random(5), 20 * SECOND, [(i, 8, periodic, "AB") for i in range(1, 4)])
-    judged = Judged(folder, without(flight, lambda n, at, l: n == "A" and l == 1 and 8 * SECOND <= at < 13 * SECOND))
-    expect("numbers that come again are a lower bound", judged, (named(judged.findings(), "lost", "link_1 at least 11"), "the link"),
-           (judged.tile("Lost numbers").startswith("at least 11"), judged.tile("Lost numbers")))
-
-
-# ---- signs
-
-def links_of_one_network(folder):
-    chance = random.Random(6)
-    rows = [(link(1, 8), periodic, "AB"), (link(2, 8, redundancy=False), periodic, "A"), (link(3, 8), periodic, "B")]
-    flight = flight_of(chance, [(one, list(how(chance, one, 4 * SECOND)), networks) for one, how, networks in rows])
-    judged = Judged(folder, flight)
-    found = judged.findings()
-    expect("a link of one network", judged, (judged.link(2)["level"] == "clean" and not named(found, "link_2"), "none without redundancy"),
-           (judged.link(3)["level"] == "trouble" and named(found, "Never seen on A", "link_3"), "one with redundancy"))
-
-
-def frames_cut_short(folder):
-    flight = sending(random.Random(7), 8 * SECOND, [(i, 16, periodic, "AB") for i in range(1, 4)])
-    judged = Judged(folder, flight, snaplen={"A": 122})
-    lost, alone = judged.tile("Lost numbers"), judged.tile("Alone")
-    told = judged.json()
-    claims = [(all(one["open"] == one["signs"] > 0 and one["level"] == "notice" for one in told["links"]), "their signs are open"),
-              (re.fullmatch(r"(\d+/0)missing .* up to \1 of them may be frames cut short", lost) is not None, lost),
-              (re.fullmatch(r"(0/\d+)came .* up to \1 of them may be frames cut short", alone) is not None, alone)]
-    expect("frames that the tap of A cuts short", judged, *claims)
-    judged = Judged(folder, flight, snaplen={"A": 120})
-    told = judged.json()
-    out = [mark for one in told["links"] for mark in one["a"]["signs"] if mark["sign"] == "out"]
-    claims = [(all(one["open"] == one["signs"] > 0 and one["level"] == "notice" for one in told["links"]), "what is out after them is open"),
-              (len(out) == 3, "no frame is out"), (re.search(r"notice +1 link_1 .* open \d+$", judged.terminal(), re.M) is not None, "terminal")]
-    expect("frames that the tap of A cuts short, some in a row", judged, *claims)
-    judged = Judged(folder, flight, snaplen={"A": 122, "B": 122})
-    both = {one["name"]: one["lost_both"] for one in judged.json()["links"]}
-    said = [f"{name} {both[name]} (up to {both[name]} may be frames cut short)" for name in both]
-    claims = [(all(both.values()), "none is lost on both"), (named(judged.findings(), "Missing on both networks (lost)", *said), "lost on both")]
-    expect("frames that both taps cut short", judged, *claims)
-    judged = Judged(folder, flight, snaplen={"A": 60, "B": 60})
-    shown = "% of all frames are cut short by the recorder: what became of them isn't known"
-    expect("frames that are nearly all cut short", judged, (named(judged.findings(), shown), "a cause"), (shown in judged.terminal(), "terminal"))
-
-
-def another_table(folder):
-    flight = sending(random.Random(8), 4 * SECOND, [(i, 16, periodic, "AB") for i in range(1, 5)])
-    judged = Judged(folder, flight, table=[link(100), link(101)])
-    shown = "100.0 % of all frames are of links outside the table: is it the table of this aircraft?"
-    expect("a table of another aircraft", judged, (named(judged.findings(), shown), "a cause"), (shown in judged.terminal(), "terminal"))
-
-
-def doubled(folder):
+def texts(folder):
+    """How findings are said: on the page in one piece, at a terminal in lines of 80 columns."""
     rows = [(i, 16, periodic, "AB") for i in range(1, 7)]
-    flight = sending(random.Random(12), 8 * SECOND, rows)
-    mixed = sorted(flight.taps["A"] + flight.taps["B"], key=lambda f: f[0])
-    twice = [f for at, data in flight.taps["A"] for f in ((at, data), (at + 2000, data))]
-    for name, frames in (("both networks in one recording", mixed), ("frames recorded twice", twice)):
-        judged = Judged(folder, flights.Flight(flight.links, {"A": frames, "B": []}))
-        told = "% of the frames of network A are excess or have a number again: does its recording hold both networks, or each frame twice?"
-        expect(name, judged, (named(judged.findings(), told), "a cause"), (told in judged.terminal(), "terminal"))
-    found = Judged(folder, flight).findings()
-    say("healthy: sound frames have no number again", "; ".join(one for one in found if "number again" in one))
+    flight = sending(random.Random(3), 20 * SECOND, rows)
+    gone = without(flight, lambda n, at, l: n == "A" and 8 * SECOND <= at < 13 * SECOND or l == 6 and at >= 15 * SECOND)
+    judged = Judged(folder, gone)
+    found, shown = judged.findings(), judged.terminal()
+    lines = shown.splitlines()
+    silence = re.compile(r"Network A silent for 5(\.0\d)?s, from 7\.99\d s to 1(2\.9|3\.0)\d\d s: \d+ numbers of 6 links are missing")
+    stop = re.compile(r"link_6 stops at 14\.9\d\d s on both networks \(usual interval 1[56](\.\d)?ms\)")
+    said = " ".join(shown.split())
+    claims = [(len(found) == 2 and silence.fullmatch(found[0]) and stop.fullmatch(found[1]), "the page"),
+              (all(len(line) <= 80 for line in lines), "a line beyond 80 columns"),
+              (sum(line.startswith("trouble  ") for line in lines) == 2, "the terminal's levels"),
+              ("Network A silent for 5.0" in said and "link_6 stops at 14.9" in said, "the terminal"), ("links 6: 1 in trouble" in said, "the counts")]
+    expect("two findings, on the page and at a terminal", judged, *claims)
+    judged = Judged(folder, flight)
+    claims = [("Nothing found" in judged.terminal(), "the terminal"), ("Nothing found" in judged.report(), "the page"), (not judged.findings(), "a finding")]
+    expect("a flight without a finding says what was looked at", judged, *claims)
+    many = without(flight, lambda n, at, l: n == "A" and any(i * SECOND // 2 <= at < i * SECOND // 2 + SECOND // 5 for i in range(2, 38)))
+    judged = Judged(folder, many)
+    told = re.search(r"^and (\d+) more: (\d+) trouble$", judged.terminal(), re.M)
+    expect("more findings than a terminal has", judged, (told and told[1] == told[2] == str(len(judged.json()["findings"]) - 20), f"{told}"))
 
 
-def drifting(name, judged, wanted):
-    """The clocks drift by about so many tenths of a ppm, B's the faster where that is above zero; or don't."""
-    told = report_reference.drift(judged.path["t.toml"], judged.path["v.ledger"])
-    words = ("The clocks of the taps drift",)
-    if told:
-        tenths = told["ppb"] // 100
-        words = (*words, f"that of {told['faster']} is about {tenths // 10}.{tenths % 10} ppm faster, say {told['links']} of {told['of']} links", "PTP")
-    found, shown = named(judged.findings(), *words), "The clocks of the taps drift" in judged.terminal()
-    planted = told is None if wanted is None else told is not None and told["faster"] == ("B" if wanted > 0 else "A") and near(tenths, abs(wanted), 0.25)
-    expect(name, judged, (planted, f"the reference has {told}"), (found == shown == (told is not None), "a finding"))
-
-
-def clocks_that_drift(folder):
-    flight = sending(random.Random(10), 20 * SECOND, [(i, 16, periodic, "AB") for i in range(1, 7)])
-    for ppm in (50, -50, 200, -900, 5):
-        moved = [(at + at * ppm // 10**6, data) for at, data in flight.taps["B"]]
-        judged = Judged(folder, flights.Flight(flight.links, {"A": flight.taps["A"], "B": moved}))
-        drifting(f"clocks that drift by {ppm} ppm", judged, ppm * 10 if abs(ppm) >= 50 else None)
-        told = run([*judged.ran.args[1:], "--verbose"], stdout=subprocess.PIPE).stderr.decode()
-        hinted = "hint: hardly a frame is a copy of another: do the clocks of the taps drift?" in told
-        say(f"healthy: the hint of watch at {ppm} ppm", "" if hinted == (ppm == -900) else told)
-    for step in (300_000, 5 * MS):
-        moved = [(at + (step if at > 10 * SECOND else 0), data) for at, data in flight.taps["B"]]
-        judged = Judged(folder, flights.Flight(flight.links, {"A": flight.taps["A"], "B": moved}))
-        drifting(f"a clock that steps by {step} ns", judged, None)
-    three = sending(random.Random(11), 20 * SECOND, [(i, 16, periodic, "AB") for i in range(1, 4)])
-    moved = [(at + at * 50 // 10**6, data) for at, data in three.taps["B"]]
-    drifting("three links alone", Judged(folder, flights.Flight(three.links, {"A": three.taps["A"], "B": moved})), None)
+def cut_commands(folder):
+    """Each finding's command cuts frames, as it stands in the JSON."""
+    rows = [(i, 16, periodic, "AB") for i in range(1, 7)]
+    flight = sending(random.Random(5), 20 * SECOND, rows)
+    judged = Judged(folder, without(flight, lambda n, at, l: n == "A" and l in (2, 3) and 8 * SECOND <= at < 9 * SECOND))
+    for finding in judged.json()["findings"]:
+        words = shlex.split(finding["cut"])
+        words[words.index("a.pcap")], words[words.index("b.pcap")] = judged.path["a.pcap"], judged.path["b.pcap"]
+        words[words.index("finding.pcap")] = os.path.join(folder, "finding.pcap")
+        ran = run(words[1:])
+        size = os.path.getsize(words[-1]) if not ran.returncode else 0
+        say(f"healthy: the command of a finding: {finding['kind']}", "" if size > 24 else f"{finding['cut']}: {ran.stderr!r}")
 
 
 def sizes_of_frames(folder):
@@ -290,11 +160,14 @@ def questions(folder):
     asked("both networks in one recording", answer, "network A hold both networks?", "tcpdump --nano -r", "ether[11] & 0xe0 = 0x20")
     twice = flights.Flight(flight.links, {"A": [f for at, data in flight.taps["A"] for f in ((at, data), (at + 2000, data))], "B": []})
     asked("frames recorded twice", Judged(folder, twice).check(), "network A hold its frames twice?", "editcap")
-    for ppm, faster in ((50, "B"), (-50, "A")):
+    for ppm, faster, lost in ((50, "B", False), (-50, "A", False), (50, "B", True)):
         moved = [(at + at * ppm // 10**6, data) for at, data in flight.taps["B"]]
+        last = {data[4:6]: at for at, data in moved}
+        moved = [(at, data) for at, data in moved if not lost or at < last[data[4:6]]]
         answer = Judged(folder, flights.Flight(flight.links, {"A": flight.taps["A"], "B": moved})).check()
         told = re.search(r"That of ([AB]) is ([0-9.]+) ppm faster, say 6 of 6 links", answer)
-        asked(f"clocks that drift, {faster} faster", answer, "do the clocks of the taps drift?", told[0] if told and told[1] == faster and near(float(told[2]), 50, 0.25) else "50 ppm")
+        name = f"clocks that drift, {faster} faster" + (", the last frames of B lost" if lost else "")
+        asked(name, answer, "do the clocks of the taps drift?", told[0] if told and told[1] == faster and near(float(told[2]), 50, 0.25) else "50 ppm")
     moved = [(at + at * 5 // 10**6, data) for at, data in flight.taps["B"]]
     answer = Judged(folder, flights.Flight(flight.links, {"A": flight.taps["A"], "B": moved})).check()
     say("healthy: check: clocks that drift by 5 ppm are no question", "" if answer.endswith("\nsound: yes\n") else answer)
@@ -307,28 +180,20 @@ def sound_flights(folder):
     for seed in range(SOUND_FLIGHTS):
         flight = flights.sound_flight(seed)
         judged = Judged(folder, flight)
-        wanted = [f"Recording {n} has no frame; redundancy can't be judged" for n in "AB" if not flight.taps[n]]
-        found = judged.findings()
-        if judged.ran.returncode != SUCCESS or found != wanted:
-            faults.append(f"seed {seed}: {judged.ran.stderr!r} {found}")
+        told = judged.json()
+        bad = [one["text"] for one in told["findings"] if one["level"] != "info"] + [one["name"] for one in told["links"] if one["level"] != "clean"]
+        if judged.ran.returncode != SUCCESS or bad:
+            faults.append(f"seed {seed}: {judged.ran.stderr!r} {bad}")
         answer = judged.check()
         if not any(line.startswith("sound: yes") for line in answer.splitlines()):
             faults.append(f"seed {seed}: check: {answer}")
-    say(f"healthy: {SOUND_FLIGHTS} sound flights have no finding and no question", "; ".join(faults[:4]))
+    say(f"healthy: {SOUND_FLIGHTS} sound flights have no finding above info, and no question", "; ".join(faults[:4]))
 
 
 def cases():
     with tempfile.TemporaryDirectory() as folder:
-        links_with_gaps(folder)
-        three_outages(folder)
-        silences(folder)
-        networks_that_end(folder)
-        losses_of_a_link(folder)
-        links_of_one_network(folder)
-        frames_cut_short(folder)
-        another_table(folder)
-        doubled(folder)
-        clocks_that_drift(folder)
+        texts(folder)
+        cut_commands(folder)
         sizes_of_frames(folder)
         questions(folder)
         sound_flights(folder)

@@ -80,12 +80,18 @@ def listed(heading, words):
 def link_text(link, row, frames, a, b, counts):
     """A link's table; `counts` gains what it is."""
     if row is None:
-        counts["unspecified"] += 1
+        counts["unspecified"].append(f"{link} ({len(frames)} frame{'' if len(frames) == 1 else 's'})")
         values = estimate(frames)
-        return "\n[[link]]\n" + seen_text(frames, values["bag_ms"] * MS) + "# The ICD has no such link.\n" + keys_text(link, f"vl_{link}", values)
+        block = "[[link]]\n" + seen_text(frames, values["bag_ms"] * MS) + keys_text(link, f"vl_{link}", values)
+        commented = [line if line.startswith("#") else f"# {line}" for line in block.splitlines(keepends=True)]
+        return "\n# The ICD has no such link: its frames are unconfigured.\n" + "".join(commented)
     bag = row.get("bag_ms") or (estimate(frames)["bag_ms"] if frames else NEITHER["bag_ms"])
     seen = seen_values(frames, bag, a and b)
-    values = {**(estimate(frames, bag * MS) if frames else NEITHER), "bag_ms": bag, **{key: row[key] for key in KEYS if key in row}}
+    values = {**(estimate(frames, bag * MS) if frames else NEITHER), "bag_ms": bag}
+    if "redundancy" in row:
+        skews = copies_of([(on, stamp, number) for on, stamp, _, number in frames]) if row["redundancy"] else []
+        values["skew_us"] = min(-(-max(skews, default=0) // 1000), 10**6)
+    values.update({key: row[key] for key in KEYS if key in row})
     text = "\n[[link]]\n" + (seen_text(frames, bag * MS) if frames else "")
     if not frames and (a or b):
         counts["unseen"] += 1
@@ -103,8 +109,8 @@ def link_text(link, row, frames, a, b, counts):
 
 
 def expected(rows, a=None, b=None, wanted=None):
-    """The draft, and what a terminal is told beside it."""
-    counts = dict.fromkeys(("beyond", "within", "unseen", "unspecified"), 0)
+    """The draft, what is told beside it, and what a terminal is told besides."""
+    counts = {**dict.fromkeys(("beyond", "within", "unseen"), 0), "unspecified": []}
     specified = {row["id"]: row for row in rows}
 
     def texts(links):
@@ -113,8 +119,12 @@ def expected(rows, a=None, b=None, wanted=None):
 
     text = drafted(HEAD, a, b, wanted, texts)
     words = {"beyond": "links seen beyond the ICD", "within": "within it", "unseen": "not seen", "unspecified": "seen and not in it"}
+    lacked = counts["unspecified"]
+    counts["unspecified"] = len(lacked)
     told = ", ".join(f"{words[kind]}: {count}" for kind, count in counts.items() if count)
-    return text, f"afdxmon: note: {told}. The draft's comments say how\n" if told else ""
+    named = ", ".join(lacked[:8]) + (f" and {len(lacked) - 8} more" if len(lacked) > 8 else "")
+    note = f"afdxmon: note: not drafted, since the ICD has no such links: {named}" if lacked else ""
+    return text, note, f"afdxmon: note: {told}. The draft's comments say how\n" if told else ""
 
 
 # ---- cases
@@ -161,10 +171,11 @@ class Desk:
         """The draft whole, at a terminal with what stands beside it, and `watch` takes it."""
         more = () if wanted is None else ("--constant", str(wanted))
         arguments = self.arguments(document, a, b, more)
-        text, told = expected(rows, a, b, wanted)
+        text, note, told = expected(rows, a, b, wanted)
         ran = run(arguments, stdout=subprocess.PIPE)
-        say(f"icd: {name}", difference(ran, SUCCESS, "", text.encode()))
+        say(f"icd: {name}", difference(ran, SUCCESS, note, text.encode()))
         at_terminal = run_at_terminal(arguments, stdin=subprocess.DEVNULL)
+        told = f"{note}\n{told}" if note else told
         say(f"icd: {name}, at a terminal", "" if at_terminal.stderr == told else f"{at_terminal.stderr!r}, not {told!r}")
         self.put("draft.toml", text)
         taken = run(["watch", "--config", self.path("draft.toml"), "--a", self.put("empty", header()), "--ledger", self.path("ledger")], stdout=subprocess.PIPE)
@@ -255,6 +266,10 @@ def recorded(desk):
                 desk.drafts(f"{key} {bound}, {name}", written(rows), rows, one, other)
             rows = [{k: v for k, v in row.items() if k != key} for row in exact.values()]
             desk.drafts(f"{key} left out, {name}", written(rows), rows, one, other)
+        for key in ("bag_ms", "redundancy"):
+            for bound in BOUNDS[key]:
+                rows = [{"id": link, key: bound} for link in exact]
+                desk.drafts(f"{key} {bound} and nothing else, {name}", written(rows), rows, one, other)
     rows = [exact[10], {"id": 11, "name": "unseen", "bag_ms": 2}, {"id": 65535}]
     desk.drafts("links of either", written(rows), rows, a, b)
     single = header() + record(START, frame(10, 80, 1))
@@ -325,8 +340,8 @@ def refused(desk):
         desk.refuses(name, document, f"afdxmon: links 2 Icd at {what}")
     desk.refuses("a name that is drafted for another link", "id,name\n5,vl_6\n6,\n", "afdxmon: links 3 Draft 7 TwiceName link 1")
     many = header() + b"".join(record(START + k, frame(60_000 + k, 60, 1)) for k in range(2))
-    full = "id\n" + "".join(f"{link}\n" for link in range(4095))
-    desk.refuses("4097 links together", full, "afdxmon: links 3 Draft 8 TooMany", a=many)
+    full = [{"id": link} for link in range(4096)]
+    desk.drafts("4096 links, and two that the document lacks", written(full, ["id"]), full, many)
     desk.refuses("text that isn't UTF-8", b"id\n\xff\n", "afdxmon: file --icd")
     desk.refuses("more than 16 MiB", "id\n" + "#" * 2**24, "afdxmon: file --icd")
 
@@ -363,7 +378,7 @@ def unreadable(desk):
 def streams(desk):
     """The document from standard input, and files that can't be had."""
     rows = [{"id": 5, "name": "five"}]
-    text, _ = expected(rows)
+    text, _, _ = expected(rows)
     document = written(rows, ("id", "name")).encode()
     ran = run(["links", "--icd", "-"], input=document, stdout=subprocess.PIPE)
     say("icd: from standard input", difference(ran, SUCCESS, "", text.encode()))

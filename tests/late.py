@@ -44,13 +44,13 @@ def steps(lateness):
     return header() + b"".join(record(stamp, frame(5, 60, i + 1)) for i, stamp in enumerate(stamps))
 
 
-def note_on(command, recording, window, is_file, who="recording"):
+def note_on(command, recording, window, who="recording"):
     """The note on a recording that a frame out of order ended."""
     frames, ending = parse(recording, nanoseconds(window))
     how, count, *reason = ending.split()
     if how == "clean":
         return frames, ""
-    late = disorder(command, lateness_after(recording, int(count))) if is_file else ""
+    late = disorder(command, lateness_after(recording, int(count)))
     return frames, f"afdxmon: note: {who} ends bad after {count} frame{'' if count == '1' else 's'}: timestamp out of order{late}"
 
 
@@ -59,11 +59,10 @@ def captures(work, name, recording):
     with open(path, "wb") as out:
         out.write(recording)
     for window in WINDOWS:
+        frames, note = note_on("capture", recording, window)
+        expected = HEADER + b"".join(record_of(*one) for one in frames)
         faults = []
-        for is_file, how in ((True, {"stdin": subprocess.DEVNULL}), (False, {"input": recording})):
-            frames, note = note_on("capture", recording, window, is_file)
-            expected = HEADER + b"".join(record_of(*one) for one in frames)
-            source = [path] if is_file else []
+        for source, how in (([path], {"stdin": subprocess.DEVNULL}), ([], {"input": recording})):
             ran = run(["capture", "--code", EVERY, *given(window), *source], stdout=subprocess.PIPE, **how)
             faults.append(difference(ran, SUCCESS, note, expected))
         say(f"late: capture {name}, --late-us {window}", faults[0] or faults[1])
@@ -75,7 +74,7 @@ def debugs(work, name, recording):
         with open(path, "wb") as out:
             out.write(content)
     for window in WINDOWS:
-        frames, note = note_on("debug", recording, window, True)
+        frames, note = note_on("debug", recording, window)
         ran = run(["debug", "--filter", paths[0], "--tap", paths[1], *given(window)], input=b"", stdout=subprocess.PIPE)
         say(f"late: debug {name}, --late-us {window}", difference(ran, SUCCESS, note, f"frames {len(frames)}\n".encode()))
 
@@ -109,6 +108,8 @@ def watched(desk):
             expected = watch(wanted, code, a, b)
             desk.lay(config=table, filter=code, a=a, b=b)
             fault = desk.agrees(desk.watch(*given(window)), expected.capture, expected.lines + expected.summary)
+            ran = run([*desk.arguments(a="-"), *given(window)], input=a, stdout=subprocess.PIPE)
+            fault = fault or desk.agrees(ran, expected.capture, expected.lines + expected.summary)
             say(f"late: watch --late-us {window}, late_us = {in_table}", fault)
 
 

@@ -22,6 +22,7 @@ GROUP = 0x03000000
 START = 1_700_000_000 * 10**9
 # How far a timestamp may lie below one before it.
 LATE = 10**9
+MAX_LINKS = 4096
 HEAD = """\
 # A draft of the table of virtual links: what was seen in recordings, and not what was specified.
 # Check each value against the ICD.
@@ -211,12 +212,16 @@ def drafted(head, a, b, wanted, texts):
         text += f"# Another constant field: {constant}, in {counted(len(of), 'frame')}.\n" if constant != main else ""
     several = f"# {strays} frames have further constant fields.\n"
     text += "# 1 frame has a further constant field.\n" if strays == 1 else several if strays else ""
-    text += f"\nconstant = {main}  # {counted(len(fields[main]), 'frame')}\n"
-    text += window_text(a, b, late)
-    links = {}
+    links, beyond = {}, 0
     for link, network, stamp, length, number in fields[main]:
-        links.setdefault(link, []).append((network, stamp, length, number))
-    return text + texts(links)
+        if link in links or len(links) < MAX_LINKS:
+            links.setdefault(link, []).append((network, stamp, length, number))
+        else:
+            beyond += 1
+    several = f"# {beyond} frames are of links beyond the first {MAX_LINKS}.\n"
+    text += f"# 1 frame is of a link beyond the first {MAX_LINKS}.\n" if beyond == 1 else several if beyond else ""
+    text += f"\nconstant = {main}  # {counted(len(fields[main]), 'frame')}\n"
+    return text + window_text(a, b, late) + texts(links)
 
 
 # ---- recordings of known tables
@@ -270,6 +275,16 @@ def pairs():
         header() + b"".join(record(stamp, data) for stamp, _, data in sorted(parse(one)[0], key=lambda f: f[0] + chance.randrange(3 * MS)))
         for one in (a, b)
     ]
+    yield "network B recorded twice", (a, header() + b"".join(record(at + by, data) for at, _, data in parse(b)[0] for by in (0, 2000)))
+    for frames, copies in ((3, 1), (3, 2), (4, 1), (4, 2)):
+        yield f"{copies} of {frames} frames are copies", [
+            header() + b"".join(
+                record(START + k * 8 * MS + skew, frame(7, 80, k + 1 if k < copies else k + other)) for k in range(frames))
+            for skew, other in ((0, 1), (50_000, 101))
+        ]
+    for more in (1, 3):
+        yield f"{MAX_LINKS + more} links", (
+            header() + b"".join(record(START + k * 1000, frame(k, 60, 1)) for k in range(MAX_LINKS + more)), None)
     yield "networks swapped", (b, a)
     yield "one recording for both networks", (a, a)
     yield "network A alone", (a, None)
@@ -279,6 +294,11 @@ def pairs():
     yield "another constant field", (a, other + b"".join(record(START + 30, b"\x00" + frame(5, 80, 1)[1:]) for _ in range(3)))
     yield "one frame of another constant field, and one of another kind", (
         a, b + record(START + 10**12, b"\x07" + frame(5, 80, 1)[1:]) + record(START + 10**12, b"\x00" + frame(5, 80, 1)[1:]))
+    alternate = b"".join(record(START + k * MS, bytes([3 if k % 2 else 7]) + frame(5, 80, k // 2 + 1)[1:]) for k in range(20))
+    yield "two constant fields, equally often", (header() + alternate, None)
+    for bit in (1, 2):
+        one = b"".join(record(START + k, bytes([bit]) + frame(5, 80, k + 1)[1:]) for k in range(2))
+        yield f"constant fields with bit {23 + bit} alone", (a, header() + one)
     yield "one frame too long", (a, header() + record(START, frame(9, 1514, 1)) + record(START + 1, frame(9, 1600, 2)))
     for gap in (144_167_000, 144_500_000, 144_499_999, 999_499, 999_500, 1_004_999, 1_005_000, 9_995_000, 10_049_999, 10_050_000, 99_950_000, 1_000_499_999):
         yield f"frames {gap} ns apart", (header() + b"".join(record(START + k * gap, frame(7, 80, k % 255 + 1)) for k in range(4)), None)
@@ -317,7 +337,8 @@ def judged(work, name, text, a, b):
     lines = [line for line in ledger.splitlines() if line[:1].isdigit()]
     allowed = {"excess"} if "more than a table allows" in text else set()
     several = {"foreign"} if "constant field" in text else set()
-    found = {word for line in lines for word in line.split()} & WRONG - allowed - several
+    beyond = {"unconfigured"} if "beyond the first" in text else set()
+    found = {word for line in lines for word in line.split()} & WRONG - allowed - several - beyond
     say(f"links: watch with the draft, {name}", f"status {ran.returncode}" if ran.returncode else " ".join(sorted(found)))
 
 

@@ -13,10 +13,10 @@ import tempfile
 import threading
 
 from analyser import watch
-from harness import EVERY, FAULT, PROGRAM, SUCCESS, USAGE, difference, frame, header, record, run, run_at_terminal, say
+from harness import EVERY, FAULT, PROGRAM, SUCCESS, USAGE, difference, frame, header, read, record, run, run_at_terminal, say
 from reference import parse
 from texts import FULL, OUTPUT, advice_on
-from watching import TABLE, Desk, notes_on, read, tap
+from watching import TABLE, Desk, notes_on, tap
 
 START = 1_800_000_000 * 10**9
 ENDS = {
@@ -69,7 +69,7 @@ def recording_of(path, data, hashed, known=True):
 
 def program_of():
     told = run(["--version"], stdout=subprocess.PIPE).stdout.decode()
-    version, commit = re.fullmatch(r"afdxmon (\S+) \(commit (\S+)\)\n", told).groups()
+    version, commit = re.fullmatch(r"afdxmon (\S+) \(commit (\S+)\) proved by \S+\n", told).groups()
     return {"name": "afdxmon", "version": version, "commit": commit}
 
 
@@ -363,7 +363,12 @@ def pages(desk):
         say(f"{name}: its page has what ties them", "" if TIES[more] in page else "it hasn't")
     without = json.loads(reports.report(None, "--json").stdout)
     say("manifest: report: numbers without one", "" if without["manifest"] is None else f"{without['manifest']}")
+    cuts = [finding.pop("cut") for finding in told["findings"]]
+    for finding in without["findings"]:
+        del finding["cut"]
     say("manifest: report: the same numbers", "" if {**told, "manifest": None} == without else "they differ")
+    recordings = [f" --a {reports.manifest['inputs']['a']['path']} ", f" --b {reports.manifest['inputs']['b']['path']} "]
+    say("manifest: report: a finding's command has its recordings", "" if all(path in cut for cut in cuts for path in recordings) else f"{cuts}")
     page = reports.report(None).stdout.decode("ascii")
     say("manifest: report: a page without one", "" if TIES[None] in page and 'class="of"' not in page else "it doesn't say so")
     strange = {**reports.manifest, "command": ["<&\"'>", "f\u00fcr @\n"], "fault": "watch 7 Memory"}

@@ -9,17 +9,12 @@ import subprocess
 import tempfile
 import time
 
-from harness import PROGRAM, TOP, say, skip
+from harness import PROGRAM, TOP, read, say, skip
 
 MAN, COMPLETIONS = os.path.join(TOP, "man"), os.path.join(TOP, "completions")
 PAGES = ("afdxmon.1", "afdxmon-ledger.5", "afdxmon-table.5")
 FILE_OPTIONS = set("--config --filter --a --b --capture --ledger --source --output -o --tap".split())
 OPTION = re.compile(r"(?<![\w-])--?[a-zA-Z][\w-]*")
-
-
-def read(*path):
-    with open(os.path.join(*path), encoding="utf-8") as text:
-        return text.read()
 
 
 def differ(found, expected):
@@ -68,7 +63,7 @@ def synopsis(page):
 
 def options_of_the_page(options):
     """The options of each command, where the man page describes them and in its synopsis."""
-    page = read(MAN, "afdxmon.1")
+    page = read(MAN, "afdxmon.1").decode()
     described, usage = sections(page, "Ss"), synopsis(page)
     say("the man page has each command", differ(described, {command for command in options if command}))
     for command in filter(None, options):
@@ -220,8 +215,8 @@ def numbers(text):
 
 def keys():
     """The keys of a table, each with the numbers of its range and its default."""
-    described, known = entries(read(MAN, "afdxmon-table.5")), {}
-    rows = re.findall(r"^\| `(\w+)` \| ((?:integer|array|string|boolean).*)", read(TOP, "docs", "TABLE.md"), re.M)
+    described, known = entries(read(MAN, "afdxmon-table.5").decode()), {}
+    rows = re.findall(r"^\| `(\w+)` \| ((?:integer|array|string|boolean).*)", read(TOP, "docs", "TABLE.md").decode(), re.M)
     for key, row in rows:
         cells = row.split(" | ")
         known[key] = numbers(re.sub(r"\(.*?\)", "", " ".join(cells[1:-1])))
@@ -232,8 +227,8 @@ def keys():
 
 def words():
     """The words of a ledger, and its lines of counts."""
-    described = {word.split()[0] for word in entries(read(MAN, "afdxmon-ledger.5"))}
-    document = read(TOP, "docs", "LEDGER.md")
+    described = {word.split()[0] for word in entries(read(MAN, "afdxmon-ledger.5").decode())}
+    document = read(TOP, "docs", "LEDGER.md").decode()
     tables = document.partition("## Discarded")[2].partition("What to look for")[0]
     known = {word for row in re.findall(r"^\| (`.*?) \|", tables, re.M) for word in re.findall(r"`(\w+)`", row)}
     known |= set(re.findall(r"^\| `(\w+) ", document.partition("## The lines of counts")[2], re.M))
@@ -242,9 +237,9 @@ def words():
 
 def fault_lines():
     """Each fault line of the documents has an entry, and no other. Places are left out."""
-    tagged = [row for page in PAGES for row in re.findall(r"^\.It Li (\w+ \d.*)", read(MAN, page), re.M)]
+    tagged = [row for page in PAGES for row in re.findall(r"^\.It Li (\w+ \d.*)", read(MAN, page).decode(), re.M)]
     found = {" ".join(re.sub(r"\bAr \w+|\bLi\b", "", row).split()) for row in tagged}
-    documents = read(TOP, "docs", "MESSAGES.md") + read(TOP, "docs", "TABLE.md")
+    documents = read(TOP, "docs", "MESSAGES.md").decode() + read(TOP, "docs", "TABLE.md").decode()
     lines = re.findall(r"`(?:afdxmon: )?((?:asm|debug|numeric|load|cut|links|check|report|watch|config) \d \w[\w ]*)`", documents)
     known = {re.sub(r"(?<=at) [NI]\b|(?<=word) W\b|(?<=link) \d| (?:WHAT|REASON|OPTION|COLUMN|FAULT)\b", "", line) for line in lines}
     say("the man pages have each fault line", differ(found, known))

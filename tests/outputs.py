@@ -5,10 +5,9 @@ import os
 import shutil
 import subprocess
 import tempfile
-import threading
 
 from analyser import watch
-from harness import EVERY, FAULT, difference, frame, header, run, run_at_terminal, say
+from harness import EVERY, FAULT, PROGRAM, difference, frame, header, run, run_at_terminal, say, skip
 from watching import OLDER, OPTIONS, TABLE, Desk, tap
 
 OUTPUTS = ("capture", "ledger")
@@ -88,6 +87,22 @@ def other_files(desk):
     say("watch: it stands", "" if desk.left("a") == GIVEN else "it has changed")
 
 
+def of_other_commands(desk):
+    """The output of `cut` and of `report` as each file that the command reads. manifest.py has that of a manifest."""
+    desk.lay(**INPUTS)
+    shutil.copy(desk.paths["ledger"], os.path.join(desk.directory, "baseline"))
+    read_by = {"cut": ("ledger", "a", "b", "config"), "report": ("config", "ledger", "baseline")}
+    for command, inputs in read_by.items():
+        paths = [os.path.join(desk.directory, option) for option in inputs]
+        for path in paths:
+            before = standing(desk)
+            words = [command, *(word for option, path in zip(inputs, paths) for word in (f"--{option}", path)), "-o", path]
+            ran = run(words, stdin=subprocess.DEVNULL, stdout=subprocess.PIPE)
+            fault = difference(ran, FAULT, "afdxmon: file --output", b"")
+            say(f"{command}: --output is --{os.path.basename(path)}", fault or ("" if standing(desk) == before else "files have changed"))
+    without(desk, "baseline")
+
+
 def new_files(desk):
     """A file that isn't there yet, by two names."""
     desk.lay(**INPUTS)
@@ -125,6 +140,7 @@ def apart(desk):
     agreeing(desk, "older files of one name in two folders", "new", "folder/new")
     shutil.rmtree(os.path.join(desk.directory, "folder"))
     without(desk, "new")
+    numbered_alike(desk)
     for name in OUTPUTS:
         with open(desk.paths[name], "wb") as out:
             out.write(bytes(1 << 20))
@@ -135,35 +151,35 @@ def apart(desk):
     without(desk, "link")
 
 
-def is_merged(whole, one, other):
-    """Whether bytes are those of two texts, each in its order."""
-    taken = {0}
-    for at, byte in enumerate(whole):
-        after = {first + 1 for first in taken if one[first : first + 1] == bytes([byte])}
-        taken = after | {first for first in taken if other[at - first : at - first + 1] == bytes([byte])}
-    return len(whole) == len(one) + len(other) and len(one) in taken
+def numbered_alike(desk):
+    """Two older files with one number, each on a device of its own."""
+    if not shutil.which("unshare"):
+        skip("watch: older files of one number on two devices", "no unshare here")
+        return
+    folders = [os.path.join(desk.directory, name) for name in ("one", "two")]
+    mounted = " && ".join(f"mkdir '{folder}' && mount -t tmpfs none '{folder}' && echo > '{folder}/new'" for folder in folders)
+    alike = " && ".join([f"[ $(stat -c %i '{folders[0]}/new') = $(stat -c %i '{folders[1]}/new') ]", "echo alike"])
+    words = " ".join(f"'{word}'" for word in [PROGRAM, *desk.arguments(capture=f"{folders[0]}/new", ledger=f"{folders[1]}/new")])
+    kept = " && ".join(f"cp '{folder}/new' '{desk.paths[name]}'" for folder, name in zip(folders, OUTPUTS))
+    script = f"{mounted} && {alike} && {words} && {kept}"
+    ran = subprocess.run(["unshare", "--mount", "--map-root-user", "sh", "-c", script], stdin=subprocess.DEVNULL, capture_output=True, timeout=60)
+    for folder in folders:
+        shutil.rmtree(folder, ignore_errors=True)
+    if b"alike" not in ran.stdout:
+        skip("watch: older files of one number on two devices", f"no devices of its own here: {ran.stderr.decode().strip()[:100]}")
+        return
+    fault = difference(ran, 0, "", b"alike\n")
+    say("watch: older files of one number on two devices", fault or desk.compared("capture", WRITTEN.capture) or desk.compared("ledger", WRITTEN.lines + WRITTEN.summary))
 
 
 def devices(desk):
-    """Devices and pipes may be named twice."""
+    """The null device may be named twice, and a pipe once: the bytes of two outputs would be mixed there."""
     desk.lay(**INPUTS)
     say("watch: /dev/null twice", difference(desk.watch(capture="/dev/null", ledger="/dev/null"), 0, "", b""))
     desk.refused("/dev/null as a recording too", desk.watch(a="/dev/null", capture="/dev/null"), "watch 2 Header A 1 Short", OLDER, OLDER)
-    pipe, told = os.path.join(desk.directory, "pipe"), []
+    pipe = os.path.join(desk.directory, "pipe")
     os.mkfifo(pipe)
-
-    def drain():
-        with open(pipe, "rb") as given:
-            told.append(given.read())
-
-    reader = threading.Thread(target=drain, daemon=True)
-    reader.start()
-    ran = desk.watch(capture=pipe, ledger=pipe)
-    reader.join(60)
-    # What was written is handed over before a tap is waited for, so that parts of both may stand in turns.
-    fits = len(told) == 1 and is_merged(told[0], WRITTEN.capture, WRITTEN.lines + WRITTEN.summary)
-    fault = difference(ran, 0, "", b"") or ("" if fits else f"{told!r} came out of it")
-    say("watch: a pipe twice", fault)
+    say("watch: a pipe twice", difference(desk.watch(capture=pipe, ledger=pipe), FAULT, "afdxmon: file --ledger", b""))
     os.remove(pipe)
 
 
@@ -254,6 +270,7 @@ def cases():
         os.symlink(".", os.path.join(directory, "here"))
         other_files(desk)
         lists(desk)
+        of_other_commands(desk)
         new_files(desk)
         apart(desk)
         devices(desk)

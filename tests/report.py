@@ -102,9 +102,12 @@ def numbers_fault(table, ledger):
     if ran.returncode != SUCCESS:
         return f"status {ran.returncode}: {ran.stderr!r}"
     told = json.loads(ran.stdout)
-    for link in told["links"]:
-        if sum(link["fates"].values()) != link["deliveries"]:
-            return f"link {link['id']}: its fates aren't its deliveries"
+    if told["unaccounted"]:
+        return f"unaccounted: {told['unaccounted']}"
+    for n in "AB":
+        for sign in told[n.lower()]["signs"]:
+            if told["totals"].get(f"{sign['sign']}.{n}", 0) != sign["count"]:
+                return f"{sign['sign']} on {n}: {sign['count']}, in all {told['totals']}"
     found = report_reference.differences(report_reference.reference(table, ledger), told)
     return "; ".join(found[:3])
 
@@ -237,56 +240,35 @@ def one_link():
     return [{"id": 10, "name": "link", "bag_ms": 1, "jitter_us": 0, "smax": 100, "integrity": True, "redundancy": True, "skew_us": 1000}]
 
 
-def lines_between(own, counts):
-    """Frames of the link on one network, each second number missing, and so many of no link on the other between each two."""
-    other = report_reference.OTHER[own]
-    taps, number = {own: [(0, frame(10, 60, 1))], other: []}, 1
-    for i, count in enumerate(counts):
-        taps[other] += [(i * STEP + 1000 * (j + 1), OF_NO_LINK) for j in range(count)]
-        number = following(following(number))
-        taps[own].append(((i + 1) * STEP, frame(10, 60, number)))
-    return taps
+# ---- ledgers that are written here, line by line: each says what is wanted of it
 
 
-def so_many_alone(own, count):
-    """Frames of the link on both networks, then so many on one alone, while others come on the other, then on the other first."""
-    other = report_reference.OTHER[own]
-    taps = {own: [(0, frame(10, 60, 1))], other: [(100, frame(10, 60, 1))]}
-    for i in range(1, count + 1):
-        taps[own].append((i * STEP, frame(10, 60, i + 1)))
-        taps[other].append((i * STEP + 500, OF_NO_LINK))
-    last = (count + 1) * STEP
-    taps[other].append((last, frame(10, 60, count + 2)))
-    taps[own].append((last + 100, frame(10, 60, count + 2)))
-    return taps
+def written(folder, link, lines, more=()):
+    """Writes a table of the link and a ledger of these lines: (time, network, sequence number, words). `more` stands after them. Returns the
+    paths of both."""
+    paths, numbers = [os.path.join(folder, name) for name in ("written.toml", "written.ledger")], {"A": 0, "B": 0}
+    with open(paths[0], "w", encoding="ascii") as out:
+        out.write(table_of([link]))
+    with open(paths[1], "w", encoding="ascii") as out:
+        out.write("afdx-ledger 2\n")
+        for at, n, number, words in lines:
+            out.write(f"{10**18 + at} {n} {numbers[n]} {link['id']} {number} {words} - 00\n")
+            numbers[n] += 1
+        out.write("".join(more))
+    return paths
 
 
-def at_the_bounds(folder):
-    """The bounds of docs/REPORT.md: the slow counter has them too, and what they make of each ledger is said here as well."""
-    table = table_of(one_link())
+DELIVER = "regular within next deliver"
 
-    def judged(name, taps, wanted, told_of):
-        paths = ledger_in(folder, table, taps)[:2]
-        fault = numbers_fault(*paths)
-        if not fault:
-            told = told_of(json.loads(report(*paths, "--json").stdout))
-            fault = "" if told == wanted else f"{told} in place of {wanted}"
-        say(f"report: {name}", fault)
 
-    for own in "AB":
-        mine, other = own.lower(), report_reference.OTHER[own].lower()
-
-        def silences(told):
-            lane = told["links"][0][mine]
-            lost = sum(sign["count"] for sign in lane["signs"] if sign["sign"] == "lost")
-            return [s["lines"] for s in told[mine]["silences"]], told[mine]["more_silences"], lost, lane["lost_after_silence"]
-
-        judged(f"63, 64 and 65 lines between two of {own}", lines_between(own, (63, 64, 65)), ([64, 65], 0, 1, 2), silences)
-        judged(f"1024 silences of {own}", lines_between(own, [64] * 1024), ([64] * 1024, 0, 0, 1024), silences)
-        judged(f"1025 silences of {own}", lines_between(own, [64] * 1025), ([64] * 1024, 1, 1, 1024), silences)
-        for count, wanted in ((7, None), (8, 8), (9, 9)):
-            judged(f"{count} lines in a row on {own} alone", so_many_alone(own, count), wanted,
-                   lambda told: (told["links"][0][other]["absence"] or {"lines": None})["lines"])
+def first_of_several(folder):
+    """The first frame is told of a link outside the table, that has one or more."""
+    for count in (1, 2):
+        outside = [f"{10**18 + STEP * i} A {i} 5000 7 unconfigured - - - - 00\n" for i in range(1, count + 1)]
+        paths = written(folder, one_link()[0], [(0, "A", 1, DELIVER)], outside)
+        told = json.loads(report(*paths, "--json").stdout)["outside"]
+        wanted = [{"id": 5000, "frames": count, "network": "A", "first": {"stamp": str(10**18 + STEP), "number": 1}}]
+        say(f"report: {count} frames of a link outside the table", "" if told == wanted else f"{told} in place of {wanted}")
 
 
 def empty_and_many(folder):
@@ -444,7 +426,7 @@ def cases():
     with tempfile.TemporaryDirectory() as folder:
         generated(folder)
         silences_of_one_network(folder)
-        at_the_bounds(folder)
+        first_of_several(folder)
         empty_and_many(folder)
         shares(folder)
         unfinished(folder)

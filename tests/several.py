@@ -294,6 +294,7 @@ def unreadable(desk):
         (["capture", "--code", EVERY], f"afdxmon: watch 3 Read A\n{why}"),
         (["debug", "--filter", desk.paths["filter"], "--tap"], f"afdxmon: watch 3 Read A\n{why}"),
         (["links", "--a"], f"afdxmon: watch 3 Read A\n{why}"),
+        (["links", "--b"], f"afdxmon: watch 3 Read B\n{why}"),
         (["check", "--config", desk.paths["config"], "--b"], unsound),
     ):
         for files in ([paths[0], folder], [folder, paths[0]], [*paths, folder]):
@@ -365,7 +366,7 @@ def lists(desk):
 
 
 def lists_without_paths(desk):
-    """A pipe isn't opened again for why it has no path. A list that has more than 16 MiB isn't read for that."""
+    """Why a list has no path is known from its one reading, of a pipe too."""
     desk.lay(config=TABLE)
     arguments = [*desk.arguments(a=None, b=None, capture=None, filter=None), "-v", "--a"]
     fifo, large = (os.path.join(desk.directory, name) for name in ("fifo", "large"))
@@ -373,7 +374,7 @@ def lists_without_paths(desk):
     writer = subprocess.Popen(["bash", "-c", f"printf '' > '{fifo}'"])
     ran = run([*arguments, f"@{fifo}"], stdin=subprocess.DEVNULL, stdout=subprocess.PIPE)
     writer.wait(timeout=60)
-    judge("several: a list that is a pipe without a path", ran, FAULT, f"afdxmon: file --a\n@{fifo}: {ADVICE['file --a']}", b"")
+    judge("several: a list that is a pipe without a path", ran, FAULT, f"afdxmon: file --a\n@{fifo}: the list has no path\n{ADVICE['file --a']}", b"")
     for size, why in ((16777216, "the list has no path"), (16777217, "it has 16777217 bytes")):
         with open(large, "w") as out:
             out.write("\n" * size)

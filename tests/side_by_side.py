@@ -7,6 +7,7 @@ import sys
 import time
 
 CLOSING = re.compile(r"(\d+) passed, (\d+) failed\n\Z")
+SKIPPED = re.compile(r"^program: (.*: skipped: .*)$", re.M)
 
 
 def ran(command, stopped):
@@ -24,7 +25,7 @@ class Count:
     """How many cases of each script passed and failed, and what those that failed said."""
 
     def __init__(self):
-        self.scripts, self.faults = {}, {}
+        self.scripts, self.faults, self.skipped = {}, {}, set()
 
     def take(self, name, ended):
         """Prints what a script said, and keeps its count in place of an earlier one."""
@@ -33,6 +34,7 @@ class Count:
         sys.stdout.write(CLOSING.sub("", said))
         print(closing, flush=True)
         self.scripts[name] = passed, failed
+        self.skipped.update(SKIPPED.findall(said))
         lines = said.splitlines()
         self.faults[name] = ([it for it in lines if "FAILED" in it] or [*lines[-10:], closing]) if failed else []
 
@@ -40,8 +42,9 @@ class Count:
         return [name for name, (_, failed) in self.scripts.items() if failed]
 
 
-def side_by_side(commands, jobs):
-    """Runs commands by their names, so many at a time, and prints what each said as it ends. How many cases passed and failed.
+def side_by_side(commands, jobs, skipped=None):
+    """Runs commands by their names, so many at a time, and prints what each said as it ends. How many cases passed and failed. Each
+    case that was skipped, and what it lacked, is added to the set `skipped`.
 
     A script that failed is run once more, by itself, after the others: what failed because the machine had too much to do passes then,
     and its first failure stands above. What fails again is printed again at the end, where it is found. With AFDXMON_FIRST_FAILURE in
@@ -59,4 +62,6 @@ def side_by_side(commands, jobs):
         count.take(name, ran(commands[name], []))
     for name in count.failing():
         print("\n".join(count.faults[name]), flush=True)
+    if skipped is not None:
+        skipped |= count.skipped
     return tuple(sum(counts) for counts in zip(*count.scripts.values()))

@@ -44,7 +44,8 @@ def of_the_program():
 class Tree:
     """A repository with a crate and a linked program, and tools/stamp."""
 
-    LINKED = b"\x7fELF and more\0afdxmon 0.2.0 (commit unknown-tree)\0unknown-tree\0"
+    LINKED = b"\x7fELF and more\0afdxmon 1.0.0 (commit unknown-tree)\0unknown-tree\0"
+    AT = LINKED.index(b"unknown-tree")
 
     def __init__(self, directory):
         self.directory = directory
@@ -59,12 +60,12 @@ class Tree:
         with open(os.path.join(self.directory, path), "wb") as out:
             out.write(data)
 
-    def stamp(self, linked="linked"):
-        """Stamps a program. What it is then, if it is one, and what was said."""
+    def stamp(self, at=AT):
+        """Stamps the linked program at a byte. What it is then, if it is one, and what was said."""
         target = os.path.join(self.directory, "bin", "program")
         if os.path.exists(target):
             os.remove(target)
-        command = [os.path.join(self.directory, "tools", "stamp"), os.path.join("bin", linked), os.path.join("bin", "program")]
+        command = [os.path.join(self.directory, "tools", "stamp"), os.path.join("bin", "linked"), os.path.join("bin", "program"), str(at)]
         ran = subprocess.run(command, cwd=self.directory, capture_output=True, timeout=60)
         made = None
         if os.path.exists(target):
@@ -101,10 +102,9 @@ def of_a_tree(tree):
     tree.has("a source that is new", UNKNOWN)
     os.remove(os.path.join(tree.directory, "crates/one/src/more.rt"))
     tree.has("the sources as they were", second)
-    for name, times, program in (("no place", 0, b"afdxmon"), ("two places", 2, tree.LINKED * 2)):
-        tree.write("bin/wrong", program)
-        ran, told = tree.stamp("wrong"), f"stamp: the program has '(commit unknown-tree)' {times} times, not once\n"
-        say(f"stamp: a program with {name}", "" if ran == (1, None, told) else f"it leaves {ran}")
+    for at in (tree.AT - 1, tree.AT + 1, len(tree.LINKED), 10**9):
+        ran, told = tree.stamp(at), f"stamp: the program hasn't 'unknown-tree' at byte {at}\n"
+        say(f"stamp: at byte {at}", "" if ran == (1, None, told) else f"it leaves {ran}")
 
 
 def cases():

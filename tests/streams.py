@@ -10,14 +10,21 @@ import subprocess
 import tempfile
 
 from analyser import watch
-from harness import EVERY, FAULT, LINK5, PROGRAM, SUCCESS, USAGE, difference, ended, frame, judge, recording, run
+from harness import EVERY, FAULT, LINK5, PROGRAM, SUCCESS, USAGE, difference, ended, frame, judge, read, recording, run
 from harness import run_at_terminal, say, told_to
 from reference import HEADER, capture
 from texts import MISUSE, TAKEN, TO_A_TERMINAL, usage_error
-from watching import OLDER, TABLE, Desk, notes_on, read, tap
+from watching import OLDER, TABLE, Desk, notes_on, tap
 
 INPUTS = ("config", "filter", "a", "b")
 OUTPUTS = ("capture", "ledger")
+# The inputs of other commands in the order in which they are looked at, and of these what a command can't do without.
+READ_BY = {
+    "cut": (("ledger", "a", "b", "config"), ("ledger", "a")),
+    "links": (("icd", "a", "b"), ()),
+    "report": (("config", "manifest", "ledger", "baseline"), ("config", "ledger")),
+    "check": (("config", "filter", "a", "b"), ("config",)),
+}
 NO_FRAME = "1,6 0 0 0,"
 LINK5_SOURCE = "ldh [4]\njne #5, drop\nret #-1\ndrop: ret #0\n"
 A = tap(*((i * 1000, frame(5, 60 + i, i + 1)) for i in range(40)))
@@ -79,7 +86,7 @@ def standard_input(desk):
 def standard_output(desk):
     for option, text, other in (("capture", WHOLE.capture, "ledger"), ("ledger", ledger_of(WHOLE), "capture")):
         desk.lay(**GIVEN)
-        fault = difference(desk.watch(**{option: "-"}), SUCCESS, notes_on(ledger_of(WHOLE)), text)
+        fault = difference(desk.watch(**{option: "-"}), SUCCESS, notes_on(ledger_of(WHOLE), {}), text)
         rest = WHOLE.capture if other == "capture" else ledger_of(WHOLE)
         say(f"watch: --{option} -", fault or desk.compared(option, OLDER) or desk.compared(other, rest))
     desk.lay(**GIVEN)
@@ -111,6 +118,11 @@ def taken(desk):
     refused_twice("watch: - everywhere", "file --filter", TAKEN["config"], every, input=b"")
     refused_twice("capture: --filter - and no recording", "file RECORDING", TAKEN["filter"], ["capture", "--filter", "-"], input=b"")
     refused_twice("capture: --source - and -", "file RECORDING", TAKEN["source"], ["capture", "--source", "-", "-"], input=b"")
+    for command, (inputs, needed) in READ_BY.items():
+        for first, second in itertools.combinations(inputs, 2):
+            given = {**dict.fromkeys(needed, "nowhere"), first: "-", second: "-"}
+            words = [command, *(word for option, path in given.items() for word in (f"--{option}", path))]
+            refused_twice(f"{command}: --{first} - and --{second} -", f"file --{second}", TAKEN[first], words, input=b"")
     for option, more in (("filter", ["--tap", "nowhere"]), ("source", ["--tap", "nowhere"]), ("tap", ["--filter", "nowhere"])):
         refused_twice(f"debug: --{option} -", f"file --{option}", TAKEN["commands"], ["debug", f"--{option}", "-", *more], input=b"")
 
@@ -449,6 +461,7 @@ def misuse(files):
         ("cut", ["--ledger", "l", "--ledger-only", "--pcapng"], "NoPackets"),
         ("cut", ["--ledger", "l", "--a", "a", "--ledger-only", "--pcapng", "--network", "C"], "NoPackets"),
         ("cut", ["--ledger", "l", "--pcapng"], "NoRecording"),
+        ("cut", ["--ledger", "l", "--config", "t", "--link", "5", "--verdict", "out", "--from", "1", "--to", "2"], "NoRecording"),
         ("links", [], "NoLinks"),
         ("links", ["--constant", "0x03000000"], "NoLinks"),
     ):

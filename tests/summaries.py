@@ -6,9 +6,9 @@ import tempfile
 import zlib
 
 from analyser import watch
-from harness import EVERY, SUCCESS, TOP, difference, frame, header, record, run_at_terminal, say
+from harness import EVERY, SUCCESS, TOP, difference, frame, header, read, record, run_at_terminal, say
 from texts import advice_on_ending
-from watching import LINK_5, TABLE, Desk, notes_on, read, tap
+from watching import LINK_5, TABLE, Desk, notes_on, tap
 
 DISCARDS = ("cut", "runt", "oversize", "foreign", "unconfigured", "toolong", "excess", "out")
 MS = 10**6

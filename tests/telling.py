@@ -296,7 +296,7 @@ def refused_to(desk):
 
 
 def piped(desk):
-    """A pipe isn't opened a second time: the advice alone says what may be wrong with it."""
+    """A pipe isn't opened a second time: what is wrong with it is known from its one reading."""
     desk.lay(config=TABLE, a=header(), b=header())
     fifo = os.path.join(desk.directory, "fifo")
     os.mkfifo(fifo)
@@ -305,7 +305,7 @@ def piped(desk):
         ran = runner(desk.arguments(filter=fifo), stdin=subprocess.DEVNULL, **({} if runner is run_at_terminal else {"stdout": subprocess.PIPE}))
         writer.wait()
         said = ran.stderr if isinstance(ran.stderr, str) else ran.stderr.decode()
-        whole = "afdxmon: file --filter\n" + (f"{fifo}: {ADVICE['file --filter']}\n" if runner is run_at_terminal else "")
+        whole = "afdxmon: file --filter\n" + (f"{fifo}: not UTF-8 at byte 0\n{ADVICE['file --filter']}\n" if runner is run_at_terminal else "")
         say("a pipe as a filter", "" if (ran.returncode, said) == (FAULT, whole) else f"status {ran.returncode}, {said!r}, not {whole!r}")
     os.remove(fifo)
 
@@ -397,6 +397,11 @@ def other_tables(desk, head, ledger):
         told.append(twice("a report", f"report 2 Contradiction at {place}", f"{ledger}: ", arguments, advice=advice, stdin=subprocess.DEVNULL))
         arguments = ["report", "--config", table, "--ledger", own, "--baseline", ledger]
         twice("a report of two flights", f"report 6 Baseline 2 Contradiction at {place}", f"{ledger}: ", arguments, advice=advice, stdin=subprocess.DEVNULL)
+        arguments = ["report", "--config", table, "--ledger", "-"]
+        twice("a report of a pipe", f"report 2 Contradiction at {place}", "standard input: ", arguments, advice=advice, input=(head + text).encode())
+        advice = f"line {line}: " + words.format("standard input") + ": is it the table of the run?"
+        arguments = ["report", "--config", "-", "--ledger", ledger]
+        twice("a report by a piped table", f"report 2 Contradiction at {place}", f"{ledger}: ", arguments, advice=advice, input=TABLE.encode())
     return told
 
 
@@ -456,7 +461,7 @@ def many():
 
 EARLY = (
     (TWO + b"\0", "cut after 2 frames: truncated within a record"),
-    (TWO + record(0, frame(5, 60, 3)), "bad after 2 frames: timestamp out of order"),
+    (TWO + record(0, frame(5, 60, 3)), "bad after 2 frames: timestamp out of order by 2 ns (--late-us 1 takes it)"),
     (TWO + struct.pack("<IIII", 0, 3, 262145, 60), "bad after 2 frames: captured length over 262144 bytes"),
     (TWO + struct.pack("<IIII", 0, 10**9, 60, 60), "bad after 2 frames: fraction of a second out of range"),
     (header() + struct.pack("<IIII", 0, 3, 262145, 60), "bad after 0 frames: captured length over 262144 bytes"),
@@ -476,12 +481,11 @@ def notes(desk):
     """The note on a recording that ends early, and at a terminal what to do with it. Elsewhere the note stands alone."""
     for given, ending in EARLY:
         note = f"afdxmon: note: recording ends {ending}\n"
-        late = " by 2 ns (--late-us 1 takes it)" if ending.endswith("out of order") else ""
         desk.lay(filter=EVERY, a=given)
         debug = ["debug", "--filter", desk.paths["filter"], "--tap", desk.paths["a"]]
-        for arguments, how, name, note in (
-            (["capture", "--code", EVERY], {"input": given}, "standard input", note),
-            (debug, {"stdin": subprocess.DEVNULL}, desk.paths["a"], f"{note[:-1]}{late}\n"),
+        for arguments, how, name in (
+            (["capture", "--code", EVERY], {"input": given}, "standard input"),
+            (debug, {"stdin": subprocess.DEVNULL}, desk.paths["a"]),
         ):
             ran = run(arguments, stdout=subprocess.PIPE, **how)
             fault = difference(ran, SUCCESS, note[:-1])

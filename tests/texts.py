@@ -333,7 +333,7 @@ PROGRAM_HELP = (
     + "Options:\n  -h, --help     Print help\n  -V, --version  Print version\n"
 )
 # The commit is in the place of the letters, of which the program has as many.
-VERSION = "afdxmon 0.2.0 (commit unknown-tree)\n"
+VERSION = "afdxmon 1.0.0 (commit unknown-tree) proved by rattle-kit-13f\n"
 # What a session at a terminal begins with.
 COMMANDS = "commands: select N, step [+|-]N, cont, breakpoint N, disassemble, tally, quit"
 
@@ -365,6 +365,9 @@ def usage_error(command, message):
 # The last line at a terminal where a standard stream is named twice, by what has it already.
 TAKEN = {
     "commands": "the commands are read from standard input: name a file",
-    **{name: f"'-' stands for --{name} already: name a file" for name in ("config", "filter", "source", "a", "capture")},
+    **{
+        name: f"'-' stands for --{name} already: name a file"
+        for name in ("config", "filter", "source", "a", "b", "capture", "ledger", "manifest", "icd")
+    },
 }
 TO_A_TERMINAL = "afdxmon: packets aren't written to a terminal: name a file by -o (of watch by --capture), or use a pipe"

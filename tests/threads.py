@@ -10,8 +10,8 @@ import tty
 
 import long
 from analyser import watch
-from harness import EVERY, FAULT, ODD, PROGRAM, SUCCESS, TOP, ended, header, readable_program, say, skip
-from watching import TABLE, read
+from harness import EVERY, FAULT, ODD, PROGRAM, SUCCESS, TOP, ended, header, read, readable_program, say, skip
+from watching import TABLE
 
 # The frames of a round at most.
 ROUND = 1024

@@ -10,7 +10,7 @@ import threading
 
 import pairs
 from analyser import watch
-from harness import EVERY, FAULT, ODD, PROGRAM, SUCCESS, TOP, USAGE, difference, frame, header, record, run, say
+from harness import EVERY, FAULT, ODD, PROGRAM, SUCCESS, TOP, USAGE, difference, frame, header, read, record, run, say
 from reference import HEADER, disorder, lateness_after
 
 LINK_5 = """
@@ -50,15 +50,15 @@ REASONS = {
 }
 
 
-def notes_on(ledger, files=None):
-    """What standard error has of the recordings of this ledger, without the last newline. Of files it tells how late a frame was."""
+def notes_on(ledger, recordings):
+    """What standard error has of the recordings of this ledger, without the last newline."""
     notes = []
     for line in ledger.decode().splitlines():
         if line.startswith("tap ") and " clean " not in line:
             network, way, count, *reason = line.split()[1:]
             why = REASONS[reason[0]] if reason else "truncated within a record"
-            if reason == ["stampback"] and files:
-                why += disorder("watch", lateness_after(files[network], int(count)))
+            if reason == ["stampback"]:
+                why += disorder("watch", lateness_after(recordings[network], int(count)))
             frames = f"{count} frame{'' if count == '1' else 's'}"
             notes.append(f"afdxmon: note: recording of network {network} ends {way} after {frames}: {why}")
     return "\n".join(notes)
@@ -101,8 +101,8 @@ class Desk:
 
     def agrees(self, ran, capture, ledger):
         """How a run that should succeed differs from that. It notes each recording that its ledger doesn't call clean."""
-        files = {network: self.left(network.lower()) if os.path.exists(self.paths[network.lower()]) else b"" for network in "AB"}
-        return difference(ran, SUCCESS, notes_on(ledger, files), b"") or self.compared("capture", capture) or self.compared("ledger", ledger)
+        recordings = {network: self.left(network.lower()) if os.path.exists(self.paths[network.lower()]) else b"" for network in "AB"}
+        return difference(ran, SUCCESS, notes_on(ledger, recordings), b"") or self.compared("capture", capture) or self.compared("ledger", ledger)
 
     def refused(self, name, ran, line, capture, ledger):
         """A run that should end with a fault, and leave these outputs."""
@@ -233,11 +233,6 @@ def long_pairs(desk):
     example = {option: read(os.path.join(TOP, "examples", "flight" + suffix)) for option, suffix in
                (("config", ".toml"), ("filter", ".filter"), ("a", "_a.pcap"), ("b", "_b.pcap"))}
     watched(desk, "the flight of examples", example["config"].decode(), example["filter"].decode(), example["a"], example["b"])
-
-
-def read(path):
-    with open(path, "rb") as given:
-        return given.read()
 
 
 def config_faults(desk):

@@ -10,17 +10,18 @@ mod watching;
 use analyser::{CommandLine, Exit, Fault, FileOption, Invocation, USAGE, gathered, read_arguments};
 use clap::Error;
 use command_line::{Typed, has_standard_among};
-use courses::{
-    Ended, Known, STANDARD_AMONG, arguments, asm, capture, check, cut, debug, links,
-    refuse_streams, report, summarise, tell,
+use commands::{
+    arguments, asm, capture, check, cut, debug, links, refuse_streams, report, summarise,
 };
+use messages::{Known, STANDARD_AMONG, tell};
 use std::io;
 use std::io::{ErrorKind, IsTerminal};
 use std::process::ExitCode;
 use std::sync::Wait;
 use std::sync::atomic::{AtomicBool, Ordering};
 use std::thread::Threads;
-use tap_inputs::{NO_RUN, Refused, Taps, status_of};
+use tap_inputs::{NO_RUN, Outcome, Taps, print, status_of, takes_messages};
+use watcher::Reporter;
 use watching::watch;
 
 /// Why the arguments can't be had as text.
@@ -46,18 +47,28 @@ fn tell_unprinted(rt: &HostRuntime, error: io::Error) -> u8 {
     exit.status()
 }
 
+/// Tells standard error why clap refuses the arguments. One with a line break would make lines of its own
+/// there.
+fn tell_refusal(rt: &HostRuntime, text: &str, arguments: &[String]) -> io::Result<()> {
+    if arguments.iter().any(|argument| argument.contains('\n')) {
+        rt.eprintln("afdxmon: the arguments aren't taken, nor shown, since one has a line break")
+    } else {
+        rt.eprint(Typed(text))
+    }
+}
+
 /// Prints what clap answers in place of a command: why it refuses the arguments, or the help or the version
 /// that they ask for. Gives the exit status.
-fn print_answer(rt: &HostRuntime, answer: &Error) -> u8 {
+fn print_answer(rt: &HostRuntime, answer: &Error, arguments: &[String]) -> u8 {
     let Ok(text) = answer.to_string(rt.alloc()) else {
         let _ = answer.print(rt);
         return USAGE;
     };
     if answer.use_stderr() {
-        let _ = rt.eprint(Typed(&text));
+        let _ = tell_refusal(rt, &text, arguments);
         return USAGE;
     }
-    match rt.print(&text) {
+    match print(rt, &text) {
         Ok(()) => 0,
         Err(error) => tell_unprinted(rt, error),
     }
@@ -69,62 +80,31 @@ fn run<R: Threads + Wait + Sync>(
     threads: &R,
     command: Invocation<'_>,
     taps: &Taps,
-    (told, full): (&AtomicBool, bool),
-) -> Result<Ended, Refused> {
+    reporter: &Reporter,
+) -> Result<Outcome, Outcome> {
     command.refuse_taken()?;
     refuse_streams(rt, command, taps)?;
     match command {
-        Invocation::Watch(given) => watch(rt, threads, &given, taps, (told, full)),
-        Invocation::Asm => Ok(Ended::from(asm(rt)?)),
+        Invocation::Watch(given) => watch(rt, threads, &given, taps, reporter),
+        Invocation::Asm => Ok(asm(rt)),
         Invocation::Capture(given) => capture(rt, &given, taps),
         Invocation::Debug(given) => debug(rt, &given, taps),
         Invocation::Cut(given) => cut(rt, &given, taps),
-        Invocation::Links(given) => links(rt, &given, taps, full),
+        Invocation::Links(given) => links(rt, &given, taps, reporter.full),
         Invocation::Report(given) => report(rt, &given, taps),
         Invocation::Check(given) => check(rt, &given, taps),
     }
 }
 
-/// Tells standard error of a fault that was met before a command began.
-fn tell_refused<'x>(
-    rt: &HostRuntime,
-    asked: Invocation<'x>,
-    taps: &'x Taps,
-    refused: &'x Refused,
-    full: bool,
-) -> Ended {
-    let exit = Exit::Fault(refused.fault);
-    let source = refused.source.as_deref();
-    let known = Known {
-        source,
-        reason: refused.reason,
-        unread: None,
-        taps,
-        at: refused.at,
-        full,
-    };
-    let _ = tell(rt, taps.named(asked, refused.at), &exit, known);
-    Ended::from(exit)
-}
-
 /// Tells standard error how a command ended.
-fn tell_ended<'x>(
-    rt: &HostRuntime,
-    asked: Invocation<'x>,
-    taps: &'x Taps,
-    ended: &Ended,
-    full: bool,
-) {
+fn tell_end(rt: &HostRuntime, asked: Invocation<'_>, taps: &Taps, outcome: &Outcome, full: bool) {
     let known = Known {
-        source: ended.told.as_deref(),
-        reason: ended.reason,
-        unread: ended.unread,
+        outcome,
         taps,
-        at: ended.at,
         full,
     };
-    let _ = tell(rt, taps.named(asked, ended.at), &ended.exit, known);
-    let _ = ended.skipped.tell(rt, &ended.exit);
+    let _ = tell(rt, taps.named(asked, outcome.at), known);
+    let _ = outcome.skipped.tell(rt, &outcome.exit);
 }
 
 /// Carries out what a command line asks for, and tells standard error how it ended: all of it, where that is
@@ -135,26 +115,27 @@ fn carry_out<R: Threads + Wait + Sync>(
     asked: CommandLine<'_>,
 ) -> Exit {
     let quiet = matches!(asked.command, Invocation::Watch(given) if given.quiet);
-    let full = asked.verbose || rt.stderr().is_terminal();
-    let told = AtomicBool::new(false);
     let Ok(taps) = Taps::of(rt, asked.command) else {
         let _ = rt.eprintln(NO_RUN);
         return Exit::Fault(NO_RUN);
     };
-    let command = taps.named(asked.command, [0, 0]);
-    let ended = match run(rt, threads, command, &taps, (&told, full)) {
-        Ok(ended) => {
-            if !told.load(Ordering::SeqCst) {
-                tell_ended(rt, asked.command, &taps, &ended, full);
-            }
-            ended
-        }
-        Err(refused) => tell_refused(rt, asked.command, &taps, &refused, full),
+    let reporter = Reporter {
+        told: AtomicBool::new(false),
+        full: asked.verbose || rt.stderr().is_terminal(),
     };
-    if asked.verbose || (full && !quiet) {
-        let _ = summarise(rt, &ended, &taps);
+    let command = taps.named(asked.command, [0, 0]);
+    let (Ok(outcome) | Err(outcome)) = run(rt, threads, command, &taps, &reporter);
+    // Where standard error is a full file, the status alone tells how the command ended.
+    if !takes_messages(rt) {
+        return outcome.exit;
     }
-    ended.exit
+    if !reporter.told.load(Ordering::SeqCst) {
+        tell_end(rt, asked.command, &taps, &outcome, reporter.full);
+    }
+    if asked.verbose || (reporter.full && !quiet) {
+        let _ = summarise(rt, &outcome, &taps);
+    }
+    outcome.exit
 }
 
 fn main(rt: HostRuntime) -> ExitCode {
@@ -172,7 +153,7 @@ fn main(rt: HostRuntime) -> ExitCode {
     }
     let status = match read_arguments(rt.alloc(), &arguments) {
         Ok(asked) => status_of(&carry_out(&rt, &rt, asked)),
-        Err(answer) => print_answer(&rt, &answer),
+        Err(answer) => print_answer(&rt, &answer, &arguments),
     };
     ExitCode::from(status)
 }

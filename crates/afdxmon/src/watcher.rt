@@ -1,13 +1,22 @@
 //! Watches a run over two recordings: what was written is handed to the system before the program waits for
 //! more, and a fault is told before the program waits for its threads.
 use afdx_frame::Network;
-use analyser::{Exit, Fault, Invocation, RunObserver, WatchArguments, WatchFault};
-use courses::{Known, tell};
+use analyser::{Fault, Invocation, RunObserver, WatchArguments, WatchFault};
 use filter_workers::RunGate;
+use messages::{Known, tell};
 use std::io;
 use std::sync::atomic::{AtomicBool, Ordering};
-use tap_inputs::{Pauses, Progress, SharedBlocks, Taps};
+use tap_inputs::{Cause, Outcome, Pauses, Progress, SharedBlocks, Taps};
 use tap_queue::TapGate;
+
+/// Who tells standard error of a run.
+#[derive(Drop)]
+pub struct Reporter {
+    /// Was its fault told?
+    pub told: AtomicBool,
+    /// Is a person told all of it?
+    pub full: bool,
+}
 
 /// Watches a run over two recordings: before it waits for them, what was written is handed to the system,
 /// and before it waits for the threads that read them, its fault is told.
@@ -20,20 +29,18 @@ pub struct Watcher<'a> {
     ledger: SharedBlocks,
     progress: Option<&'a Progress>,
     pauses: Option<&'a Pauses>,
-    told: &'a AtomicBool,
-    full: bool,
+    reporter: &'a Reporter,
 }
 
 impl<'a> Watcher<'a> {
-    /// Of the capture and the ledger. `told` becomes true once a fault was told, in full if a person is to be
-    /// told all of it.
+    /// Of the capture and the ledger.
     pub fn new(
         rt: &'a HostRuntime,
         (given, taps): (WatchArguments<'a>, &'a Taps),
         outputs: (SharedBlocks, SharedBlocks),
         progress: Option<&'a Progress>,
         pauses: Option<&'a Pauses>,
-        (told, full): (&'a AtomicBool, bool),
+        reporter: &'a Reporter,
     ) -> Watcher<'a> {
         let (capture, ledger) = outputs;
         Watcher {
@@ -44,8 +51,7 @@ impl<'a> Watcher<'a> {
             ledger,
             progress,
             pauses,
-            told,
-            full,
+            reporter,
         }
     }
 
@@ -58,8 +64,8 @@ impl<'a> Watcher<'a> {
     }
 
     /// Tells standard error of the first fault, and for which reason an output wasn't written.
-    fn tell_fault(&self, fault: WatchFault, reason: Option<io::Error>) {
-        if self.told.load(Ordering::SeqCst) {
+    fn tell_fault(&self, fault: WatchFault, refused: Option<io::Error>) {
+        if self.reporter.told.load(Ordering::SeqCst) {
             return;
         }
         if let Some(pauses) = self.pauses {
@@ -69,17 +75,17 @@ impl<'a> Watcher<'a> {
             progress.erase(self.rt);
         }
         // Where standard error can't be written, the status alone tells of it.
-        let command = Invocation::Watch(self.given);
-        let known = Known {
-            source: None,
-            reason,
-            unread: None,
-            taps: self.taps,
-            at: [0, 0],
-            full: self.full,
+        let outcome = Outcome {
+            cause: refused.map(|error| Cause::System(error)),
+            ..Outcome::from(Fault::Watch(fault))
         };
-        let _ = tell(self.rt, command, &Exit::Fault(Fault::Watch(fault)), known);
-        self.told.store(true, Ordering::SeqCst);
+        let known = Known {
+            outcome: &outcome,
+            taps: self.taps,
+            full: self.reporter.full,
+        };
+        let _ = tell(self.rt, Invocation::Watch(self.given), known);
+        self.reporter.told.store(true, Ordering::SeqCst);
     }
 }
 
@@ -99,8 +105,8 @@ impl RunObserver for Watcher<'_> {
     }
 
     fn aborts(&self, fault: WatchFault) {
-        let reason = self.hand_over().err().map(|(_, error)| error);
-        self.tell_fault(fault, reason);
+        let refused = self.hand_over().err().map(|(_, error)| error);
+        self.tell_fault(fault, refused);
     }
 }
 

@@ -1,25 +1,24 @@
 //! The course of `watch`: two recordings judged and filtered, on threads.
-use crate::watcher::Watcher;
+use crate::watcher::{Reporter, Watcher};
 use afdx_frame::Network;
 use analyser::{
     Exit, Fault, FileOption, Invocation, Plan, RunSizes, Summary, WatchArguments, WatchRefused,
     Watched, load_filters, read_config, sized_watch,
 };
 use bpf_loader::Program;
-use courses::{
-    Ended, LedgerWriter, MAX_LATE, RunSums, Spans, TextSums, blocks_of, create, create_hashed,
-    file_in, format_of, is_at_terminal, refuse_shared, shared, text_of, with_manifest, worst_links,
+use commands::{
+    LedgerWriter, MAX_LATE, RunSums, Spans, TextSums, blocks_of, create, create_hashed, file_in,
+    format_of, is_at_terminal, refuse_shared, shared, text_of, with_manifest, worst_links,
 };
 use pcap_io::WriteSink;
 use pcapng::Interfaces;
 use run_manifest::sum_of;
 use std::sync::Wait;
-use std::sync::atomic::AtomicBool;
 use std::thread;
 use std::thread::Threads;
 use tap_inputs::{
-    Blocks, OutputStream, Pauses, Progress, Reading, Refused, Skipped, TapEnd, TapFiles, Taps,
-    end_of, files_of, open_tap,
+    Blocks, Cause, Outcome, OutputStream, Pauses, Progress, Reading, Skipped, TapEnd, TapFiles,
+    Taps, end_of, files_of, open_tap,
 };
 use vl_config::Config;
 
@@ -32,7 +31,7 @@ const NO_FRAME: &str = "1,6 0 0 0,";
 fn set_up(
     rt: &HostRuntime,
     given: &WatchArguments<'_>,
-) -> Result<(Config, Vec<Program>, TextSums), Fault> {
+) -> Result<(Config, Vec<Program>, TextSums), Outcome> {
     let hashed = given.manifest.is_some();
     let table = text_of(rt, given.config, FileOption::Config)?;
     let config = read_config(rt.alloc(), &table)?;
@@ -63,7 +62,7 @@ fn open_outputs(
     rt: &HostRuntime,
     given: &WatchArguments<'_>,
     taps: &Taps,
-) -> Result<RunOutputs, Fault> {
+) -> Result<RunOutputs, Outcome> {
     refuse_shared(rt, Invocation::Watch(*given), taps)?;
     let capture = match given.capture {
         Some(path) => create_hashed(rt, path, FileOption::Capture, given.digest)?,
@@ -111,7 +110,7 @@ fn settle<'p>(
         Watched<TapFiles<'p>, TapFiles<'p>, CaptureSink, LedgerSink>,
         WatchRefused<TapFiles<'p>, TapFiles<'p>, CaptureSink, LedgerSink>,
     >,
-) -> (Ended, RunSums) {
+) -> (Outcome, RunSums) {
     let (outcome, worst, [a, b], capture, ledger) = match run {
         Ok(done) => {
             let [a, b] = done.endings;
@@ -141,13 +140,15 @@ fn settle<'p>(
         last_file(&a, &exit, Network::A),
         last_file(&b, &exit, Network::B),
     ];
-    let ended = Ended {
+    let ended = Outcome {
         at,
         exit,
         worst,
         skipped: Skipped::two(skipped_in(&a), skipped_in(&b)),
-        reason: capture_fails.or(ledger_fails),
-        told: None,
+        cause: capture_fails
+            .or(ledger_fails)
+            .map(|error| Cause::System(error)),
+        detail: None,
         unread: None,
     };
     let read = [a.map(|end| end.sums), b.map(|end| end.sums)];
@@ -163,10 +164,7 @@ struct Analysis<'a> {
     /// The sums of the texts of the table and of the filter.
     texts: TextSums,
     taps: &'a Taps,
-    /// Is a person told all of how the run ended?
-    full: bool,
-    /// Becomes true once a fault was told.
-    told: &'a AtomicBool,
+    reporter: &'a Reporter,
 }
 
 /// Judges and filters the frames of two recordings, on threads. What was written before a fault is
@@ -176,7 +174,7 @@ fn watch_networks<'x, R: Threads + Wait + Sync>(
     threads: &R,
     analysis: &Analysis<'x>,
     pauses: Option<&'x Pauses>,
-) -> Result<Ended, Refused> {
+) -> Result<Outcome, Outcome> {
     let (given, taps) = (analysis.given, analysis.taps);
     let a = open_tap(rt, given.a, Network::A, pauses)?;
     let b = open_tap(rt, given.b, Network::B, pauses)?;
@@ -218,7 +216,7 @@ fn run_watch<'p, R: Threads + Wait + Sync>(
     (a, b): (TapFiles<'p>, TapFiles<'p>),
     (capture, ledger): (Blocks, Blocks),
     spans: Option<Spans>,
-) -> Result<(Ended, RunSums), Fault> {
+) -> Result<(Outcome, RunSums), Outcome> {
     let Reading {
         rt,
         progress,
@@ -229,8 +227,15 @@ fn run_watch<'p, R: Threads + Wait + Sync>(
     let (ledger, live_ledger) = shared(rt, ledger)?;
     let outputs = (live_capture, live_ledger);
     let given = analysis.given;
-    let told = (analysis.told, analysis.full);
-    let watcher = Watcher::new(rt, (*given, analysis.taps), outputs, progress, pauses, told);
+    let reporter = analysis.reporter;
+    let watcher = Watcher::new(
+        rt,
+        (*given, analysis.taps),
+        outputs,
+        progress,
+        pauses,
+        reporter,
+    );
     let plan = Plan {
         programs: analysis.programs,
         format: format_of(given.pcapng, Interfaces::Networks, Some(analysis.config)),
@@ -260,7 +265,7 @@ fn watch_pauses<R: Threads + Wait + Sync>(
     threads: &R,
     analysis: &Analysis<'_>,
     pauses: &Pauses,
-) -> Result<Ended, Refused> {
+) -> Result<Outcome, Outcome> {
     thread::scope(thread::scope_env(), threads, |scope| {
         // Without that thread nothing is told of them.
         let _ = scope.spawn(|| pauses.tell(rt, threads));
@@ -276,10 +281,10 @@ pub fn watch<R: Threads + Wait + Sync>(
     threads: &R,
     given: &WatchArguments<'_>,
     taps: &Taps,
-    (told, full): (&AtomicBool, bool),
-) -> Result<Ended, Refused> {
+    reporter: &Reporter,
+) -> Result<Outcome, Outcome> {
     if given.capture.is_some_and(|path| is_at_terminal(rt, path)) {
-        return Ok(Ended::from(Exit::Terminal));
+        return Ok(Outcome::from(Exit::Terminal));
     }
     let (config, programs, texts) = set_up(rt, given)?;
     let analysis = Analysis {
@@ -288,8 +293,7 @@ pub fn watch<R: Threads + Wait + Sync>(
         programs: &programs,
         texts,
         taps,
-        full,
-        told,
+        reporter,
     };
     let ended = match Pauses::begin(rt, given) {
         Some(pauses) => watch_pauses(rt, threads, &analysis, &pauses)?,

@@ -1,11 +1,5 @@
 //! Which cell of a row is of which key, by the heads of the first row.
 
-ghost use Rattle.std.specs.Prelude.{◌≡◌, IfOk, Some};
-ghost use Rattle.csv.specs.Records.{fields_of};
-ghost use Rattle.icd_links.specs.Heads.{AreColumns, IsColumn, is_name_of};
-ghost use Rattle.icd_links.specs.Links.{cell_of};
-
-use crate::cell::says;
 use csv::StringRecord;
 use vl_config::Key;
 
@@ -28,9 +22,7 @@ pub struct Columns {
 
 impl Columns {
     /// The columns of which these are the heads.
-    pub fn of(heads: &StringRecord) -> Result<Columns, WrongHeads>
-        ensures { IfOk result (AreColumns (fields_of heads.now)) }
-    {
+    pub fn of(heads: &StringRecord) -> Result<Columns, WrongHeads> {
         let Some(id) = place_of(heads, Key::Id)? else {
             return Err(WrongHeads);
         };
@@ -47,13 +39,11 @@ impl Columns {
     }
 }
 
-/// The place of a key's head, which stands once at most.
-fn place_of(heads: &StringRecord, key: Key) -> Result<Option<usize>, WrongHeads>
-    ensures { IfOk result (IsColumn key (fields_of heads.now)) }
-{
+/// The place of a key's head, its name in any case, which stands once at most.
+fn place_of(heads: &StringRecord, key: Key) -> Result<Option<usize>, WrongHeads> {
     let mut found = None;
     for place in 0..heads.len() {
-        if is_head(heads, place, key) {
+        if cell_at(heads, Some(place)).eq_ignore_ascii_case(key.name()) {
             if found.is_some() {
                 return Err(WrongHeads);
             }
@@ -63,17 +53,8 @@ fn place_of(heads: &StringRecord, key: Key) -> Result<Option<usize>, WrongHeads>
     Ok(found)
 }
 
-/// Is the head at a place a key's name, in any case, without the white space around it?
-fn is_head(heads: &StringRecord, place: usize, key: Key) -> bool
-    ensures { result ≡ is_name_of key (cell_of (fields_of heads.now) (Some place)) }
-{
-    says(cell_at(heads, Some(place)), key.name())
-}
-
 /// The text of a cell without the white space around it; of no column it is blank.
-pub fn cell_at(row: &StringRecord, place: Option<usize>) -> &str
-    ensures { result.now ≡ cell_of (fields_of row.now) place }
-{
+pub fn cell_at(row: &StringRecord, place: Option<usize>) -> &str {
     match place {
         Some(place) => row.get(place).unwrap_or("").trim(),
         None => "",

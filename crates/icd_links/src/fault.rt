@@ -1,9 +1,5 @@
 //! The faults of a document, apart from the code that finds them.
 
-ghost use Rattle.std.specs.Prelude.{◌≡◌};
-ghost use Rattle.icd_links.specs.Faults.{line_of};
-ghost use Rattle.icd_links.specs.declared.fault.IcdFault.TheVariants.{Memory};
-
 use std::alloc::{AllocError, AllocFailed};
 use thiserror::Error;
 use vl_config::Key;
@@ -37,9 +33,7 @@ pub enum IcdFault {
 
 impl IcdFault {
     /// The line of the document that is wrong.
-    pub fn line(self) -> Option<u64>
-        ensures { result ≡ line_of self }
-    {
+    pub fn line(self) -> Option<u64> {
         match self {
             IcdFault::Head { line }
             | IcdFault::Cells { line }
@@ -53,16 +47,12 @@ impl IcdFault {
 }
 
 impl From<AllocError> for IcdFault {
-    ghost from_gives = { λ _ e. e ≡ Memory };
-
     fn from(_e: AllocError) -> IcdFault {
         IcdFault::Memory
     }
 }
 
 impl<T: Drop> From<AllocFailed<T>> for IcdFault {
-    ghost from_gives = { λ _ e. e ≡ Memory };
-
     fn from(_e: AllocFailed<T>) -> IcdFault {
         IcdFault::Memory
     }

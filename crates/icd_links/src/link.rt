@@ -1,7 +1,5 @@
 //! What a document specifies of one link.
 
-ghost use Rattle.std.specs.Prelude.{◌≡◌, ◌≤◌, ℕ, Some};
-
 use afdx_frame::VlId;
 
 /// What a document specifies of a virtual link, in the units and the ranges of a table. None: it leaves that
@@ -24,9 +22,4 @@ pub struct IcdLink {
     pub redundancy: Option<bool>,
     /// The greatest difference of time between the two copies of a frame, in microseconds: at most 1000000.
     pub skew_us: Option<u64>,
-    ghost bag_within: { (ms : ℕ) → bag_ms ≡ Some ms → ms ≤ 128 },
-    ghost jitter_within: { (us : ℕ) → jitter_us ≡ Some us → us ≤ 100000 },
-    ghost least: { (len : ℕ) → smax ≡ Some len → 64 ≤ len },
-    ghost greatest: { (len : ℕ) → smax ≡ Some len → len ≤ 1518 },
-    ghost skew_within: { (us : ℕ) → skew_us ≡ Some us → us ≤ 1000000 },
 }

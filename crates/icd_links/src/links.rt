@@ -1,14 +1,5 @@
 //! The links of a document.
 
-ghost use Rattle.std.specs.Prelude.{◌≡◌, ◌++◌, ℕ, Err, IfOk, OnOk, List, [], false, map, IsPermutation};
-ghost use Rattle.std.specs.List.{list_any, IsDistinct};
-ghost use Rattle.std.specs.List.Sorted.{IsNonDecreasingBy};
-ghost use Rattle.csv.specs.Records.{fields_of};
-ghost use Rattle.icd_links.specs.declared.fault.IcdFault.TheVariants.{Cells};
-ghost use Rattle.icd_links.specs.declared.link.IcdLink.{IcdLink};
-ghost use Rattle.icd_links.specs.Document.{AreLinks, Gives, RowGives, has_id, has_same_id};
-ghost use Rattle.icd_links.specs.Rows.{are_quotes_closed};
-
 use crate::columns::Columns;
 use crate::fault::IcdFault;
 use crate::link::IcdLink;
@@ -27,9 +18,7 @@ pub struct IcdLinks {
 
 impl IcdLinks {
     /// No link.
-    pub fn new(alloc: Global) -> IcdLinks
-        ensures { result.links.items ≡ [] }
-    {
+    pub fn new(alloc: Global) -> IcdLinks {
         IcdLinks {
             links: Vec::new(alloc),
         }
@@ -43,11 +32,7 @@ impl IcdLinks {
     /// than the first; then of the heads; then row by row of the first cell that has none of its column's
     /// values, of an identifier and of a name that an earlier row has, and of the row after the first
     /// [`MAX_LINKS`]. `Memory` if there is none.
-    pub fn read(alloc: Global, text: &str) -> Result<IcdLinks, IcdFault>
-        ensures links { IfOk result (λ icd. AreLinks text.now icd.links.items) }
-        ensures quotes { are_quotes_closed text.now ≡ false
-            → (line : ℕ) × (result ≡ Err (Cells line)) }
-    {
+    pub fn read(alloc: Global, text: &str) -> Result<IcdLinks, IcdFault> {
         let rows = closed_rows(alloc, text)?;
         let Some((heads, rows)) = rows.split_first() else {
             return Err(IcdFault::Head { line: 1 });
@@ -58,7 +43,7 @@ impl IcdLinks {
             });
         };
         let mut links = take_rows(alloc, text, &columns, rows)?;
-        sort_by_id(&mut links.links)?;
+        links.links.sort_by_key(|link| link.id.0)?;
         Ok(links)
     }
 
@@ -68,13 +53,7 @@ impl IcdLinks {
         alloc: Global,
         columns: &Columns,
         row: &StringRecord,
-    ) -> Result<(), RowFault>
-        ensures gives { OnOk result ((given : List IcdLink)
-            × (self.new.links.items ≡ self.old.links.items ++ given)
-            × RowGives columns.now (fields_of row.now) given) }
-        ensures distinct { IsDistinct has_same_id self.old.links.items →
-            OnOk result (IsDistinct has_same_id self.new.links.items) }
-    {
+    ) -> Result<(), RowFault> {
         if is_blank(columns, row) {
             return Ok(());
         }
@@ -92,9 +71,7 @@ impl IcdLinks {
         Ok(())
     }
 
-    fn has_id(&self, id: VlId) -> bool
-        ensures { result ≡ list_any (has_id id) self.now.links.items }
-    {
+    fn has_id(&self, id: VlId) -> bool {
         self.links.iter().any(|link| link.id == id)
     }
 
@@ -107,9 +84,7 @@ impl IcdLinks {
     }
 
     /// The links by rising identifier.
-    pub fn links(&self) -> &[IcdLink]
-        ensures { result.now ≡ self.now.links.items }
-    {
+    pub fn links(&self) -> &[IcdLink] {
         self.links.as_slice()
     }
 }
@@ -120,11 +95,7 @@ fn take_rows(
     text: &str,
     columns: &Columns,
     rows: &[StringRecord],
-) -> Result<IcdLinks, IcdFault>
-    ensures gives { IfOk result (λ icd.
-        Gives columns.now (map fields_of rows.now) icd.links.items) }
-    ensures distinct { IfOk result (λ icd. IsDistinct has_same_id icd.links.items) }
-{
+) -> Result<IcdLinks, IcdFault> {
     let mut links = IcdLinks::new(alloc);
     for row in rows {
         if let Err(wrong) = links.take_row(alloc, columns, row) {
@@ -132,17 +103,6 @@ fn take_rows(
         }
     }
     Ok(links)
-}
-
-/// Sorts links by rising identifier.
-fn sort_by_id(links: &mut Vec<IcdLink>) -> Result<(), IcdFault>
-    ensures permutation { IsPermutation links.old.items links.new.items }
-    ensures rising { OnOk result (IsNonDecreasingBy (λ link. link.id.0) links.new.items) }
-    ensures distinct { IsDistinct has_same_id links.old.items →
-        IsDistinct has_same_id links.new.items }
-{
-    links.sort_by_key(|link| link.id.0)?;
-    Ok(())
 }
 
 fn is_named(link: &IcdLink, name: &str) -> bool {

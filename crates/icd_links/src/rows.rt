@@ -1,43 +1,24 @@
 //! The rows of a document.
 
-ghost use Rattle.std.specs.Prelude.{◌≡◌, ℕ, Err, IfOk, false, find, map};
-ghost use Rattle.csv.specs.Reading.{strip_bom};
-ghost use Rattle.csv.specs.Records.{fields_of};
-ghost use Rattle.icd_links.specs.Rows.{AreClosedRows, AreRows, are_quotes_closed, separator};
-ghost use Rattle.icd_links.specs.Rows.{tells_separator};
-ghost use Rattle.icd_links.specs.declared.fault.IcdFault.TheVariants.{Cells};
-
 use crate::fault::IcdFault;
 use crate::quotes::stray_quote;
 use csv::{Error, ErrorKind, Position, ReaderBuilder, StringRecord};
 use std::alloc::Global;
 
 /// A comma separates cells, or a semicolon where one comes before any comma in the first line.
-fn separator_of(text: &str) -> u8
-    ensures { result ≡ separator text.now }
-{
-    match first_separator(text.as_bytes()) {
-        Some(byte) if byte == b';' => b';',
+fn separator_of(text: &str) -> u8 {
+    let first = text
+        .as_bytes()
+        .iter()
+        .find(|byte| matches!(**byte, b',' | b';' | b'\n'));
+    match first {
+        Some(b';') => b';',
         _ => b',',
     }
 }
 
-fn first_separator(bytes: &[u8]) -> Option<u8>
-    ensures { result ≡ find tells_separator bytes.now }
-{
-    bytes.iter().copied().find(|byte| tells_separator(*byte))
-}
-
-fn tells_separator(byte: u8) -> bool
-    ensures { result ≡ tells_separator byte }
-{
-    byte == b',' || byte == b';' || byte == b'\n'
-}
-
 /// A text without the byte order mark at its start.
-fn after_mark(bytes: &[u8]) -> &[u8]
-    ensures { result.now ≡ strip_bom bytes.now }
-{
+fn after_mark(bytes: &[u8]) -> &[u8] {
     bytes.strip_prefix(&[0xEF, 0xBB, 0xBF]).unwrap_or(bytes)
 }
 
@@ -75,9 +56,7 @@ fn fault_of(text: &str, error: &Error) -> IcdFault {
 }
 
 /// The rows of a text, which have one length.
-fn read_rows(alloc: Global, text: &str) -> Result<Vec<StringRecord>, Error>
-    ensures rows { IfOk result (λ rows. AreRows text.now (map fields_of rows.items)) }
-{
+fn read_rows(alloc: Global, text: &str) -> Result<Vec<StringRecord>, Error> {
     let reader = ReaderBuilder::new()
         .has_headers(false)
         .delimiter(separator_of(text))
@@ -97,11 +76,7 @@ fn read_rows(alloc: Global, text: &str) -> Result<Vec<StringRecord>, Error>
 ///
 /// `Cells` of the first quote that isn't closed or that text follows, else of a row that has another length;
 /// `Memory` if there is none.
-pub fn closed_rows(alloc: Global, text: &str) -> Result<Vec<StringRecord>, IcdFault>
-    ensures rows { IfOk result (λ rows. AreClosedRows text.now (map fields_of rows.items)) }
-    ensures quotes { are_quotes_closed text.now ≡ false
-        → (line : ℕ) × (result ≡ Err (Cells line)) }
-{
+pub fn closed_rows(alloc: Global, text: &str) -> Result<Vec<StringRecord>, IcdFault> {
     let bytes = after_mark(text.as_bytes());
     if let Some(quote) = stray_quote(bytes, separator_of(text)) {
         return Err(IcdFault::Cells {

@@ -1,70 +1,55 @@
--- One more line of the ledger beside the numbers of its report.
-use Rattle.std.proofs.Common.{get_or, ◌&&◌, ◌^◌, ◌≡◌, ◌∙◌, ℕ, ◌<◌, ◌≤◌, false, List, [], ◌∷◌, ◌++◌, length, reverse, Option, Some, None, refl, sym, ap, subst, arith, length-append}
-use Rattle.std.proofs.lemmas.List.{append-nil, length-reverse, reverse-append}
+-- One more line of a ledger that is right.
+use Rattle.std.proofs.Common.{◌≡◌, ◌∙◌, ℕ, ◌+◌, ◌<◌, ◌≤◌, Bool, true, false, cond, List, [], ◌∷◌, ◌++◌, length, reverse, count_by, Option, Some, None, is_some, refl, sym, ap, subst, arith}
+use Rattle.std.proofs.lemmas.List.Sums.{sum_by-cons}
+use Rattle.std.proofs.lemmas.List.{append-nil, length-append, reverse-append, reverse-reverse}
 use Rattle.std.specs.Io.KnownBytes.{prepend_known}
-use Rattle.vl_config.specs.Link.{VirtualLink}
-use Rattle.ledger_text.specs.FrameText.{IsFrameLine}
-use Rattle.ledger_text.specs.Order.{IsLineAt}
-use Rattle.ledger_text.specs.declared.order.LedgerStage.{LedgerStage}
+use Rattle.afdx_frame.specs.declared.key.Network.{Network}
+use Rattle.afdx_frame.specs.declared.key.Network.TheVariants.{A, B}
+use Rattle.pcap_io.specs.declared.device.TapSource.{Ghosts as SourceMembers}
+use Rattle.vl_config.specs.Document.{VlTable}
 use Rattle.ledger_text.specs.Ledger.{EndsAt, HasReadLines, ReadLine, frame_lines, frames_in, has_failed as ledger_failed, left_of, lent_of, stage_of}
 use Rattle.ledger_text.specs.Lines.{unread_of}
 use Rattle.ledger_text.specs.Reader.{IsFound, reading_of, source_of}
 use Rattle.ledger_text.specs.declared.bounds.TheConstants.{MAX_LINES}
 use Rattle.ledger_text.specs.declared.frame.FrameLine.{FrameLine}
+use Rattle.ledger_text.specs.declared.order.Counts.{Counts as Kind}
+use Rattle.ledger_text.specs.declared.order.Counts.TheVariants as kinds
 use Rattle.ledger_text.specs.declared.order.LedgerLine.{LedgerLine}
-use Rattle.ledger_text.specs.declared.reader.LedgerReader.{LedgerReader}
-use Rattle.ledger_text.specs.declared.reader.LedgerStop.{LedgerStop}
-use Rattle.ledger_text.proofs.Ledgers.{found_one_more, frame_lines_one_more}
-use Rattle.pcap_io.specs.declared.device.TapSource.{Ghosts as SourceMembers}
-use Rattle.ledger_report.specs.AloneLines.{HasAlone}
-use Rattle.ledger_report.specs.Counting.{AreCountsOf}
-use Rattle.ledger_report.specs.LinkMarks.{AddsLanes}
-use Rattle.ledger_report.specs.SignSums.{HasSignsOf, KeepEachLosses}
-use Rattle.ledger_report.specs.Span.{HasSpan, KeepsPlaces}
-use Rattle.ledger_report.proofs.NetworkMarks.{networks_told}
-use Rattle.afdx_frame.specs.declared.key.Network.TheVariants.{A, B}
-use Rattle.ledger_report.specs.Keeping.{KeepsAccount}
-use Rattle.ledger_report.specs.Noting.{IsAccountOf}
-use Rattle.ledger_report.specs.CountsLines.{HasCounted}
-use Rattle.ledger_report.specs.Reading.{HasNoted, HasRead, TellsLedger, report_of}
-use Rattle.ledger_report.specs.Holding.{EndAlone, HoldsAlone}
-use Rattle.ledger_report.specs.Settling.{GainFates, HaveFates}
-use Rattle.ledger_report.specs.Deliveries.{is_deliver}
-use Rattle.ledger_report.specs.Links.{AreEach, AreLinksOf, HasMet, HasOpen, pairing_rules, row_of}
-use Rattle.ledger_report.specs.OutsideLines.{IsOutsideOf}
-use Rattle.ledger_report.specs.Words.{is_seen_of}
-use Rattle.ledger_report.specs.declared.link.LinkReport.{LinkReport}
-use Rattle.std.proofs.lemmas.List.Sums.{count_by-le-length}
-use Rattle.ledger_report.specs.declared.counts.FrameCounts.{FrameCounts}
-use Rattle.ledger_report.specs.declared.counts_lines.CountsLines.{CountsLines}
-use Rattle.ledger_report.specs.declared.statistics.Statistics.{Statistics}
-use Rattle.ledger_report.proofs.FateLines.{all_met, all_open}
-use Rattle.ledger_report.proofs.CountsSteps.{counted_frame}
-use Rattle.ledger_report.proofs.Spans.{span_end, span_kept}
-use Rattle.ledger_report.proofs.AccountSteps.{keeps_links, keeps_networks, link_at}
-use Rattle.ledger_report.proofs.HoldAccounts.{links_alone}
-use Rattle.ledger_report.proofs.SignSteps.{keep_each_losses}
-use Rattle.ledger_report.proofs.OutsideSteps.{outside_few}
 use Rattle.ledger_text.specs.declared.order.LedgerLine.TheVariants as lines
 use Rattle.ledger_text.specs.declared.order.LedgerStage.TheVariants as stages
 use Rattle.ledger_text.specs.declared.reader.FoundLine.TheVariants as found
+use Rattle.ledger_text.specs.declared.reader.LedgerReader.{LedgerReader}
+use Rattle.ledger_text.specs.declared.reader.LedgerStop.{LedgerStop}
+use Rattle.ledger_text.proofs.Ledgers.{found_one_more, frame_lines_one_more}
+use Rattle.ledger_report.specs.Counts.{AreCountsOf}
+use Rattle.ledger_report.specs.CountsLines.{AreCountsRight, HasCounted, HasEndings, IsInPlace, IsRightCounts, IsRightLine, Moves, TakesEnding, Tap, filters_told, is_filter_line, is_link_line, is_whole, links_told, tap_frames, tap_network, taps_in, taps_of}
+use Rattle.ledger_report.specs.FrameLines.{HasTaken}
+use Rattle.ledger_report.specs.Reading.{HasNoted, IsRead}
+use Rattle.ledger_report.specs.TapLines.{IsEnding}
+use Rattle.ledger_report.specs.Wrongs.{AreRight, wrong_of}
+use Rattle.ledger_report.specs.declared.counts.FrameCounts.{FrameCounts}
+use Rattle.ledger_report.specs.declared.counts_lines.CountsLines.{CountsLines}
+use Rattle.ledger_report.specs.declared.counts_lines.TapEnding.{TapEnding}
+use Rattle.ledger_report.specs.declared.frame_lines.FrameLines.{FrameLines}
+use Rattle.findings.specs.declared.per_network.PerNetwork.{PerNetwork}
 
-abbrev pub line_of : {S : Type 0} → LedgerReader S → LedgerLine → ReadLine
-line_of reader line = record { text = lent_of reader; line = line }
+abbrev pub read_as : List ℕ → LedgerLine → ReadLine
+read_as text line = record { text = text; line = line }
 
-abbrev pub IsNoting : {S : Type 0} → SourceMembers S → Option (List ℕ) → ℕ → List VirtualLink → LedgerReader S → FrameCounts → Statistics → CountsLines → Type 0
-IsNoting s bytes failures links ledger counts statistics counted = (rs : List ReadLine) × HasNoted s bytes failures links rs ledger counts statistics counted
+-- ---- the lists of lines
 
--- what the values of a frame's line are
-frame_at : (stage : LedgerStage) (text : List ℕ) (v : FrameLine) → IsLineAt stage text (lines.Frame v) → IsFrameLine v
-frame_at stages.Head text v is = absurd is
-frame_at stages.Frames text v is = is.values
-frame_at (stages.Counts last) text v is = absurd is
+-- the lines of frames, the newest first, with one more line
+frames_more : (rs : List ReadLine) (r : ReadLine) → reverse (frame_lines (rs ++ r ∷ [])) ≡ reverse (frame_lines rs ++ frames_in r.line)
+frames_more rs r = ap (λ (vs : List FrameLine). reverse vs) (frame_lines_one_more rs r)
 
-pub is_frame_line : {S : Type 0} (s : SourceMembers S) (old new : LedgerReader S) (v : FrameLine)
-    → IsFound (reading_of s.remaining s.failures old) (reading_of s.remaining s.failures new) (lent_of new) (found.Line (lines.Frame v)) → IsFrameLine v
-is_frame_line s old new v is = frame_at old.stage (lent_of new) v is.1.0
+frame_more : (rs : List ReadLine) (text : List ℕ) (v : FrameLine)
+    → reverse (frame_lines (rs ++ read_as text (lines.Frame v) ∷ [])) ≡ v ∷ reverse (frame_lines rs)
+frame_more rs text v = frames_more rs (read_as text (lines.Frame v)) ∙ reverse-append (frame_lines rs) (v ∷ [])
 
+lines_more : (rs : List ReadLine) (r : ReadLine) → reverse (rs ++ r ∷ []) ≡ r ∷ reverse rs
+lines_more rs r = reverse-append rs (r ∷ [])
+
+-- a ledger that goes on has fewer lines than it may have
 one_frame : (line : LedgerLine) → length (frames_in line) ≤ 1
 one_frame (lines.Frame v) = omega arith
 one_frame lines.Head = omega arith
@@ -74,90 +59,196 @@ few_frames : (rs : List ReadLine) → length (frame_lines rs) ≤ length rs
 few_frames [] = omega arith
 few_frames (r ∷ rs) = omega (arith, length-append (frames_in r.line) (frame_lines rs), one_frame r.line, few_frames rs)
 
--- a ledger that goes on has fewer lines than it may have
 pub few_before : {S : Type 0} (s : SourceMembers S) (bytes : Option (List ℕ)) (failures : ℕ) (rs : List ReadLine) (old new : LedgerReader S) (line : LedgerLine)
     → HasReadLines s bytes failures rs old
     → IsFound (reading_of s.remaining s.failures old) (reading_of s.remaining s.failures new) (lent_of new) (found.Line line)
     → length (frame_lines rs) < MAX_LINES
 few_before s bytes failures rs old new line h is = omega (arith, few_frames rs, h.number, is.1.3)
 
-pub few_lines : (rs : List ReadLine) → length (frame_lines rs) < MAX_LINES → length (reverse (frame_lines rs)) < MAX_LINES
-few_lines rs few = omega (arith, few, length-reverse (frame_lines rs))
+-- ---- the lines of counts
 
-abbrev pub frame_noted : {S : Type 0} (s : SourceMembers S) (bytes : Option (List ℕ)) (failures : ℕ) (links : List VirtualLink) (rs : List ReadLine)
-    (old new : LedgerReader S) (was now : FrameCounts) (before after : Statistics) (counted : CountsLines) (v : FrameLine) → HasNoted s bytes failures links rs old was before counted
-    → IsFound (reading_of s.remaining s.failures old) (reading_of s.remaining s.failures new) (lent_of new) (found.Line (lines.Frame v)) → ledger_failed new ≡ false
-    → length (frame_lines rs) < MAX_LINES → AreCountsOf (frame_lines rs ++ v ∷ []) now → IsAccountOf links (v ∷ reverse (frame_lines rs)) after
-    → HasSpan (v ∷ reverse (frame_lines rs)) after → AreEach HoldsAlone links (v ∷ reverse (frame_lines rs)) after.links.items
-    → HasSignsOf links (v ∷ reverse (frame_lines rs)) after
-    → IsNoting s bytes failures links new now after counted
-frame_noted s bytes failures links rs old new was now before after lines_counted v h is sound few counted account span alone signs =
-    let more = frame_lines_one_more rs (line_of new (lines.Frame v)) in (
-      rs ++ line_of new (lines.Frame v) ∷ [],
-      record {
-        read = found_one_more s bytes failures rs old new (lines.Frame v) h.read is sound;
-        counts_are = subst (λ (vs : List FrameLine). AreCountsOf vs now) (sym more) counted;
-        account = subst (λ (vs : List FrameLine). IsAccountOf links vs after)
-            (sym (ap (λ (vs : List FrameLine). reverse vs) more ∙ reverse-append (frame_lines rs) (v ∷ []))) account;
-        span = subst (λ (vs : List FrameLine). HasSpan vs after)
-            (sym (ap (λ (vs : List FrameLine). reverse vs) more ∙ reverse-append (frame_lines rs) (v ∷ []))) span;
-        alone = subst (λ (vs : List FrameLine). AreEach HoldsAlone links vs after.links.items)
-            (sym (ap (λ (vs : List FrameLine). reverse vs) more ∙ reverse-append (frame_lines rs) (v ∷ []))) alone;
-        signs = subst (λ (vs : List FrameLine). HasSignsOf links vs after)
-            (sym (ap (λ (vs : List FrameLine). reverse vs) more ∙ reverse-append (frame_lines rs) (v ∷ []))) signs;
-        counted_are = subst (λ (qs : List ReadLine). HasCounted links qs lines_counted) (sym (reverse-append rs (line_of new (lines.Frame v) ∷ [])))
-            (counted_frame links (reverse rs) lines_counted (lent_of new) v h.counted_are);
-        few = omega (arith, few, ap (λ (vs : List FrameLine). length vs) more, length-append (frame_lines rs) (v ∷ []));
-      },
-    )
+count_cons : (p : ReadLine → Bool) (r : ReadLine) (rs : List ReadLine) (n : ℕ) → cond (p r) 1 0 ≡ n → count_by p (r ∷ rs) ≡ n + count_by p rs
+count_cons p r rs n is = sum_by-cons (λ y. cond (p y) 1 0) r rs ∙ ap (λ k. k + count_by p rs) is
 
-abbrev pub other_noted : {S : Type 0} (s : SourceMembers S) (bytes : Option (List ℕ)) (failures : ℕ) (links : List VirtualLink) (rs : List ReadLine)
-    (old new : LedgerReader S) (counts : FrameCounts) (statistics : Statistics) (was now : CountsLines) (line : LedgerLine) → frames_in line ≡ []
-    → HasNoted s bytes failures links rs old counts statistics was
-    → IsFound (reading_of s.remaining s.failures old) (reading_of s.remaining s.failures new) (lent_of new) (found.Line line) → ledger_failed new ≡ false
-    → HasCounted links (line_of new line ∷ reverse rs) now → IsNoting s bytes failures links new counts statistics now
-other_noted s bytes failures links rs old new counts statistics was now line none h is sound counted =
-    let same = frame_lines_one_more rs (line_of new line) ∙ ap (λ (vs : List FrameLine). frame_lines rs ++ vs) none ∙ append-nil (frame_lines rs) in (
-      rs ++ line_of new line ∷ [],
-      record {
-        read = found_one_more s bytes failures rs old new line h.read is sound;
-        counts_are = subst (λ (vs : List FrameLine). AreCountsOf vs counts) (sym same) h.counts_are;
-        account = subst (λ (vs : List FrameLine). IsAccountOf links (reverse vs) statistics) (sym same) h.account;
-        span = subst (λ (vs : List FrameLine). HasSpan (reverse vs) statistics) (sym same) h.span;
-        alone = subst (λ (vs : List FrameLine). AreEach HoldsAlone links (reverse vs) statistics.links.items) (sym same) h.alone;
-        signs = subst (λ (vs : List FrameLine). HasSignsOf links (reverse vs) statistics) (sym same) h.signs;
-        counted_are = subst (λ (qs : List ReadLine). HasCounted links qs now) (sym (reverse-append rs (line_of new line ∷ []))) counted;
-        few = omega (arith, h.few, ap (λ (vs : List FrameLine). length vs) same);
-      },
-    )
+is_known : (network : Network) (frames : ℕ) (text : List ℕ) (ending : Option TapEnding) → IsEnding network frames text ending → is_some ending ≡ true
+is_known network frames text None is = absurd is
+is_known network frames text (Some ending) is = refl
 
--- a link's deliveries are some of the ledger's lines
-pub few_delivered : (links : List VirtualLink) (lines : List FrameLine) (reports : List LinkReport) → AreLinksOf links lines reports → length lines ≤ MAX_LINES →
-    (i : ℕ) (report : LinkReport) → i < length reports → (get_or reports i report).deliveries < 2 ^ 62
-few_delivered links lines reports are few i report within =
-    let below : i < length links = omega (arith, within, are.count) in
-    let link = link_at links i below in
-    let h = are.each i link report below in
-    let small = count_by-le-length (λ line. is_seen_of (get_or links i link).id.0 line && is_deliver line) lines in
-    omega (arith, h.deliveries, small, few)
+-- so many lines `tap` stood
+taps_count : (taps : List Tap) (endings : PerNetwork (Option TapEnding)) → HasEndings taps endings → taps_in endings ≡ length taps
+taps_count [] endings (a, b) = rw (b, a) refl
+taps_count (a ∷ []) endings (is, b) = rw (b, is_known A (tap_frames a.frames A) a.text endings.a is) refl
+taps_count (b ∷ a ∷ []) endings (first, second) = rw (is_known B (tap_frames b.frames B) b.text endings.b second) refl
+taps_count (c ∷ b ∷ a ∷ taps) endings is = absurd is
 
-abbrev pub ends_noting : {S : Type 0} (s : SourceMembers S) (bytes : Option (List ℕ)) (failures : ℕ) (links : List VirtualLink) (rs : List ReadLine)
-    (old : LedgerReader S) (counts : FrameCounts) (statistics : Statistics) (counted : CountsLines) → HasNoted s bytes failures links rs old counts statistics counted
-    → (stop : Option LedgerStop) → EndsAt rs (stage_of old) (left_of s old) stop → HasRead bytes links stop counts statistics counted
-ends_noting s bytes failures links rs old counts statistics counted h stop at = record {
-  rs = rs;
-  stage = stage_of old;
-  left = left_of s old;
-  lines = h.read.lines;
-  ends = at;
-  counts_are = h.counts_are;
-  account = h.account;
-  span = h.span;
-  alone = h.alone;
-  signs = h.signs;
-  counted_are = h.counted_are;
-  few = h.few;
+endings_more : (taps : List Tap) (tap : Tap) (old new : PerNetwork (Option TapEnding)) → HasEndings taps old → length taps < 2
+    → TakesEnding (tap_network (length taps)) (tap_frames tap.frames (tap_network (length taps))) tap.text old new → HasEndings (tap ∷ taps) new
+endings_more [] tap old new h few (is, same) = (is, ap (λ (o : Option TapEnding). is_some o) same ∙ h.1)
+endings_more (a ∷ []) tap old new h few (is, same) =
+    (subst (λ (o : Option TapEnding). IsEnding A (tap_frames a.frames A) a.text o) (sym same) h.0, is)
+endings_more (b ∷ a ∷ taps) tap old new h few is = absurd (omega (arith, few))
+
+-- The line is right by the numbers of lines that stood, as by the lines.
+right_at : (table : VlTable) (f g : List FrameLine) (i j m n k l : ℕ) (kind : Kind) (text : List ℕ) → f ≡ g → i ≡ j → m ≡ n → k ≡ l
+    → IsRightLine table f i m k kind text → IsRightLine table g j n l kind text
+right_at table f g i j m n k l kind text one two three four h =
+    subst (λ (a : ℕ). IsRightLine table g j n a kind text) four
+    (subst (λ (a : ℕ). IsRightLine table g j a k kind text) three
+    (subst (λ (a : ℕ). IsRightLine table g a m k kind text) two
+    (subst (λ (vs : List FrameLine). IsRightLine table vs i m k kind text) one h)))
+
+frames_back : (rs : List ReadLine) → frame_lines rs ≡ frame_lines (reverse (reverse rs))
+frames_back rs = ap (λ (qs : List ReadLine). frame_lines qs) (sym (reverse-reverse rs))
+
+pub right_counts : (table : VlTable) (rs : List ReadLine) (counted : CountsLines) (kind : Kind) (text : List ℕ) → HasCounted (reverse rs) counted
+    → IsRightLine table (frame_lines rs) counted.links counted.filters (taps_in counted.endings) kind text
+    → IsRightCounts table (reverse rs) kind text
+right_counts table rs counted kind text h is =
+    right_at table (frame_lines rs) (frame_lines (reverse (reverse rs))) counted.links (links_told (reverse rs)) counted.filters
+    (filters_told (reverse rs)) (taps_in counted.endings) (length (taps_of (reverse rs))) kind text (frames_back rs) h.links h.filters
+    (taps_count (taps_of (reverse rs)) counted.endings h.endings) is
+
+pub right_line : (table : VlTable) (rs : List ReadLine) (counted : CountsLines) (kind : Kind) (text : List ℕ) → HasCounted (reverse rs) counted
+    → IsRightCounts table (reverse rs) kind text
+    → IsRightLine table (frame_lines rs) counted.links counted.filters (taps_in counted.endings) kind text
+right_line table rs counted kind text h is =
+    right_at table (frame_lines (reverse (reverse rs))) (frame_lines rs) (links_told (reverse rs)) counted.links (filters_told (reverse rs))
+    counted.filters (length (taps_of (reverse rs))) (taps_in counted.endings) kind text (sym (frames_back rs)) (sym h.links) (sym h.filters)
+    (sym (taps_count (taps_of (reverse rs)) counted.endings h.endings)) is
+
+-- a line that isn't one of counts
+same_counts : (qs : List ReadLine) (counted : CountsLines) (text : List ℕ) (line : LedgerLine) → links_told (read_as text line ∷ qs) ≡ 0 + links_told qs
+    → filters_told (read_as text line ∷ qs) ≡ 0 + filters_told qs → is_whole (read_as text line ∷ qs) ≡ is_whole qs
+    → taps_of (read_as text line ∷ qs) ≡ taps_of qs → HasCounted qs counted → HasCounted (read_as text line ∷ qs) counted
+same_counts qs counted text line links filters whole taps h = record {
+  links = omega (arith, h.links, links);
+  filters = omega (arith, h.filters, filters);
+  whole = h.whole ∙ sym whole;
+  endings = subst (λ (ts : List Tap). HasEndings ts counted.endings) (sym taps) h.endings;
 }
+
+counted_frame : (qs : List ReadLine) (counted : CountsLines) (text : List ℕ) (v : FrameLine) → HasCounted qs counted
+    → HasCounted (read_as text (lines.Frame v) ∷ qs) counted
+counted_frame qs counted text v =
+    same_counts qs counted text (lines.Frame v) (count_cons (λ r. is_link_line r.line) (read_as text (lines.Frame v)) qs 0 refl)
+    (count_cons (λ r. is_filter_line r.line) (read_as text (lines.Frame v)) qs 0 refl) refl refl
+
+pub counted_head : (qs : List ReadLine) (counted : CountsLines) (text : List ℕ) → HasCounted qs counted
+    → HasCounted (read_as text lines.Head ∷ qs) counted
+counted_head qs counted text =
+    same_counts qs counted text lines.Head (count_cons (λ r. is_link_line r.line) (read_as text lines.Head) qs 0 refl)
+    (count_cons (λ r. is_filter_line r.line) (read_as text lines.Head) qs 0 refl) refl refl
+
+counted_by : (qs : List ReadLine) (table : VlTable) (fs : List FrameLine) (old new : CountsLines) (text : List ℕ) (kind : Kind)
+    → fs ≡ frame_lines (reverse qs) → HasCounted qs old → IsInPlace table old.links old.filters (taps_in old.endings) kind
+    → Moves fs kind text old new → links_told (read_as text (lines.Counts kind) ∷ qs) ≡ cond (is_link_line (lines.Counts kind)) 1 0 + links_told qs
+    → filters_told (read_as text (lines.Counts kind) ∷ qs) ≡ cond (is_filter_line (lines.Counts kind)) 1 0 + filters_told qs
+    → HasCounted (read_as text (lines.Counts kind) ∷ qs) new
+counted_by qs table fs old new text kinds.Link frames h place moves links filters = record {
+  links = omega (arith, moves.0, h.links, links);
+  filters = omega (arith, moves.1, h.filters, filters);
+  whole = moves.2 ∙ h.whole;
+  endings = subst (λ (e : PerNetwork (Option TapEnding)). HasEndings (taps_of qs) e) (sym moves.3) h.endings;
+}
+counted_by qs table fs old new text kinds.Filter frames h place moves links filters = record {
+  links = omega (arith, moves.0, h.links, links);
+  filters = omega (arith, moves.1, h.filters, filters);
+  whole = moves.2 ∙ h.whole;
+  endings = subst (λ (e : PerNetwork (Option TapEnding)). HasEndings (taps_of qs) e) (sym moves.3) h.endings;
+}
+counted_by qs table fs old new text kinds.Tap frames h place moves links filters =
+    let count = taps_count (taps_of qs) old.endings h.endings in
+    let taken = subst (λ (n : ℕ). TakesEnding (tap_network n) (tap_frames fs (tap_network n)) text old.endings new.endings) count moves.3 in record {
+      links = omega (arith, moves.0, h.links, links);
+      filters = omega (arith, moves.1, h.filters, filters);
+      whole = moves.2 ∙ h.whole;
+      endings = endings_more (taps_of qs) (record { text = text; frames = frame_lines (reverse qs) }) old.endings new.endings h.endings
+          (omega (arith, count, place.1))
+          (subst (λ (vs : List FrameLine). TakesEnding (tap_network (length (taps_of qs))) (tap_frames vs (tap_network (length (taps_of qs)))) text
+          old.endings new.endings) frames taken);
+    }
+counted_by qs table fs old new text kinds.Total frames h place moves links filters = record {
+  links = omega (arith, moves.0, h.links, links);
+  filters = omega (arith, moves.1, h.filters, filters);
+  whole = moves.2;
+  endings = subst (λ (e : PerNetwork (Option TapEnding)). HasEndings (taps_of qs) e) (sym moves.3) h.endings;
+}
+
+pub counted_more : (rs : List ReadLine) (table : VlTable) (old new : CountsLines) (text : List ℕ) (kind : Kind) → HasCounted (reverse rs) old
+    → IsInPlace table old.links old.filters (taps_in old.endings) kind → Moves (frame_lines rs) kind text old new
+    → HasCounted (read_as text (lines.Counts kind) ∷ reverse rs) new
+counted_more rs table old new text kind h place moves =
+    counted_by (reverse rs) table (frame_lines rs) old new text kind (frames_back rs) h place moves
+    (count_cons (λ r. is_link_line r.line) (read_as text (lines.Counts kind)) (reverse rs) (cond (is_link_line (lines.Counts kind)) 1 0) refl)
+    (count_cons (λ r. is_filter_line r.line) (read_as text (lines.Counts kind)) (reverse rs) (cond (is_filter_line (lines.Counts kind)) 1 0) refl)
+
+-- ---- a reading
+
+abbrev pub line_of : {S : Type 0} → LedgerReader S → LedgerLine → ReadLine
+line_of reader line = read_as (lent_of reader) line
+
+abbrev pub IsNoting : {S : Type 0} → SourceMembers S → Option (List ℕ) → ℕ → VlTable → LedgerReader S → FrameCounts → FrameLines → CountsLines → Type 0
+IsNoting s bytes failures table ledger counts frames counted = (rs : List ReadLine) × HasNoted s bytes failures table rs ledger counts frames counted
+
+module _ {S : Type 0} (s : SourceMembers S) (bytes : Option (List ℕ)) (failures : ℕ) (table : VlTable) (rs : List ReadLine) (old new : LedgerReader S)
+    (was : FrameCounts) (before : FrameLines) (counted : CountsLines) (h : HasNoted s bytes failures table rs old was before counted) where
+  pub frame_noted : (v : FrameLine) (now : FrameCounts) (after : FrameLines)
+      → IsFound (reading_of s.remaining s.failures old) (reading_of s.remaining s.failures new) (lent_of new) (found.Line (lines.Frame v))
+      → ledger_failed new ≡ false → AreCountsOf (frame_lines rs ++ v ∷ []) now → wrong_of table.links (reverse (frame_lines rs)) v ≡ None
+      → HasTaken (v ∷ reverse (frame_lines rs)) after → IsNoting s bytes failures table new now after counted
+  frame_noted v now after is sound counts right taken =
+      let more = sym (frame_more rs (lent_of new) v) in
+      let one = sym (lines_more rs (line_of new (lines.Frame v))) in (
+        rs ++ line_of new (lines.Frame v) ∷ [],
+        record {
+          read = found_one_more s bytes failures rs old new (lines.Frame v) h.read is sound;
+          right = record {
+            frames = subst (λ (vs : List FrameLine). AreRight table.links vs) more (right, h.right.frames);
+            counts = subst (λ (qs : List ReadLine). AreCountsRight table qs) one (tt, h.right.counts);
+          };
+          counts_are = subst (λ (vs : List FrameLine). AreCountsOf vs now) (sym (frame_lines_one_more rs (line_of new (lines.Frame v)))) counts;
+          frames_are = subst (λ (vs : List FrameLine). HasTaken vs after) more taken;
+          counted_are = subst (λ (qs : List ReadLine). HasCounted qs counted) one
+              (counted_frame (reverse rs) counted (lent_of new) v h.counted_are);
+        },
+      )
+
+  pub other_noted : (line : LedgerLine) (now : CountsLines) → frames_in line ≡ []
+      → IsFound (reading_of s.remaining s.failures old) (reading_of s.remaining s.failures new) (lent_of new) (found.Line line)
+      → ledger_failed new ≡ false → AreCountsRight table (line_of new line ∷ reverse rs) → HasCounted (line_of new line ∷ reverse rs) now
+      → IsNoting s bytes failures table new was before now
+  other_noted line now none is sound right moved =
+      let same = sym (frame_lines_one_more rs (line_of new line) ∙ ap (λ (vs : List FrameLine). frame_lines rs ++ vs) none
+      ∙ append-nil (frame_lines rs)) in
+      let one = sym (lines_more rs (line_of new line)) in (
+        rs ++ line_of new line ∷ [],
+        record {
+          read = found_one_more s bytes failures rs old new line h.read is sound;
+          right = record {
+            frames = subst (λ (vs : List FrameLine). AreRight table.links (reverse vs)) same h.right.frames;
+            counts = subst (λ (qs : List ReadLine). AreCountsRight table qs) one right;
+          };
+          counts_are = subst (λ (vs : List FrameLine). AreCountsOf vs was) same h.counts_are;
+          frames_are = subst (λ (vs : List FrameLine). HasTaken (reverse vs) before) same h.frames_are;
+          counted_are = subst (λ (qs : List ReadLine). HasCounted qs now) one moved;
+        },
+      )
+
+  pub all_read : (stop : Option LedgerStop) → EndsAt rs (stage_of old) (left_of s old) stop
+      → IsRead bytes table stop was counted.endings counted.whole
+  all_read stop at = record {
+    rs = rs;
+    stage = stage_of old;
+    left = left_of s old;
+    lines = h.read.lines;
+    right = h.right;
+    ends = at;
+    counts_are = h.counts_are;
+    endings_are = h.counted_are.endings;
+    whole_is = h.counted_are.whole;
+  }
+
+-- ---- nothing is read yet
 
 prepend_none : (bytes : Option (List ℕ)) → bytes ≡ prepend_known [] bytes
 prepend_none None = refl
@@ -166,8 +257,7 @@ prepend_none (Some xs) = refl
 none_ahead : (unread : List ℕ) (bytes : Option (List ℕ)) → unread ≡ [] → bytes ≡ prepend_known unread bytes
 none_ahead unread bytes none = rw none (prepend_none bytes)
 
--- a reader of which nothing is read yet
-pub reads_nothing : {S : Type 0} (s : SourceMembers S) (source : S) (reader : LedgerReader S) → source_of reader ≡ source → unread_of reader.lines ≡ []
+reads_nothing : {S : Type 0} (s : SourceMembers S) (source : S) (reader : LedgerReader S) → source_of reader ≡ source → unread_of reader.lines ≡ []
     → (reader.stage ≡ stages.Head) × (reader.number ≡ 0) × (reader.failed ≡ false)
     → HasReadLines s (s.remaining source) (s.failures source) [] reader
 reads_nothing {S = S} s source reader same none (stage, number, sound) = record {
@@ -177,55 +267,15 @@ reads_nothing {S = S} s source reader same none (stage, number, sound) = record 
   no_failure = ap (λ (x : S). s.failures x) same;
 }
 
-abbrev pub tells_ledger : (bytes : Option (List ℕ)) (links : List VirtualLink) (counts : FrameCounts) (old new : Statistics) (counted : CountsLines) (stop : Option LedgerStop) → KeepsAccount old new → KeepsPlaces old new
-    → GainFates old.links.items new.links.items →
-    EndAlone old.networks old.links.items new.links.items
-    → KeepEachLosses old.links.items new.links.items
-    → AddsLanes (length new.links.items) A new.links.items old.networks.a.signs new.networks.a.signs
-    → AddsLanes (length new.links.items) B new.links.items old.networks.b.signs new.networks.b.signs
-    → HasRead bytes links stop counts old counted
-    → TellsLedger bytes links (report_of counts new counted stop)
-tells_ledger bytes links counts old new counted stop keeps kept gain alone losses on_a on_b h =
-    let lines = reverse (frame_lines h.rs) in
-    let few : length lines ≤ MAX_LINES = omega (arith, h.few, length-reverse (frame_lines h.rs)) in
-    let told_met : AreEach HasMet links lines new.links.items =
-    λ i link report within. (
-    let at : i < length old.links.items = omega (arith, within, h.account.links_are.count) in
-    all_met (pairing_rules (row_of (get_or links i link))) lines (get_or old.links.items i report) (get_or new.links.items i report) few
-    (h.account.links_are.each i link report within).fates_are (h.account.met_are i link report within) (gain i report at).1) in
-    let told_fates : HaveFates new.links.items =
-    λ i report within. (
-    let below : i < length old.links.items = omega (arith, within, keeps.links.0) in
-    (gain i report below).0 (h.account.balanced i report below) (few_delivered links lines old.links.items h.account.links_are few i report below)) in
-    let told_links = keeps_links links lines old.links.items new.links.items keeps.links h.account.links_are in
-    let told_open : AreEach HasOpen links lines new.links.items =
-    λ i link report within. (
-    let at : i < length old.links.items = omega (arith, within, h.account.links_are.count) in
-    all_open (row_of (get_or links i link)) lines (get_or new.links.items i report)
-    (told_links.each i link report within)
-    ((gain i report at).0 (h.account.balanced i report at) (few_delivered links lines old.links.items h.account.links_are few i report at)).0
-    (told_met i link report within)) in
-    let told_alone : AreEach HasAlone links lines new.links.items =
-    links_alone links lines old new few keeps alone h.account.networks_are h.account.links_are told_fates told_open h.alone in record {
-      rs = h.rs;
-      stage = h.stage;
-      left = h.left;
-      lines = h.lines;
-      ends = h.ends;
-      counts_are = h.counts_are;
-      networks_are = keeps_networks lines old new keeps h.account.networks_are;
-      marks_are = networks_told links lines new.links.items old.networks new.networks told_links told_alone on_a on_b h.signs.rules;
-      links_are = told_links;
-      lost_both = λ i link report within.
-          (keep_each_losses links lines old.links.items new.links.items losses h.signs.losses i link report within).told;
-      start_is = (span_kept lines old new kept h.span).start;
-      end_is = span_end lines new (span_kept lines old new kept h.span);
-      counts_told = h.counted_are.told;
-      whole_is = h.counted_are.whole_is;
-      few_outside = outside_few lines new.outside.items (subst (IsOutsideOf lines) (sym keeps.outside) h.account.outside);
-      outside_are = subst (IsOutsideOf lines) (sym keeps.outside) h.account.outside;
-      fates = told_fates;
-      met_are = told_met;
-      open_are = told_open;
-      alone_are = told_alone;
-    }
+pub notes_nothing : {S : Type 0} (s : SourceMembers S) (source : S) (table : VlTable) (reader : LedgerReader S) (counts : FrameCounts)
+    (frames : FrameLines) (counted : CountsLines) → source_of reader ≡ source → unread_of reader.lines ≡ []
+    → (reader.stage ≡ stages.Head) × (reader.number ≡ 0) × (reader.failed ≡ false)
+    → AreCountsOf [] counts → HasTaken [] frames → HasCounted [] counted
+    → HasNoted s (s.remaining source) (s.failures source) table [] reader counts frames counted
+notes_nothing s source table reader counts frames counted same none start counts_are frames_are counted_are = record {
+  read = reads_nothing s source reader same none start;
+  right = record { frames = tt; counts = tt };
+  counts_are = counts_are;
+  frames_are = frames_are;
+  counted_are = counted_are;
+}

@@ -11,15 +11,13 @@ use Rattle.vl_config.specs.Document.{VlTable}
 use Rattle.vl_config.specs.Link.{VirtualLink}
 use Rattle.ledger_text.specs.declared.frame.FrameLine.{FrameLine}
 use Rattle.ledger_text.specs.declared.order.Counts.TheVariants as kinds
-use Rattle.ledger_report.specs.CountsRight.{IsRightLine, TakesWhere, tap_frames, tap_network, taps_in}
-use Rattle.ledger_report.specs.CountsText.{IsFilterLine, IsLinkLine}
-use Rattle.ledger_report.specs.TapLines.{IsTapLine, Said}
-use Rattle.ledger_report.specs.Words.{filter_count, link_counts}
+use Rattle.ledger_report.specs.Counts.{filter_count, link_counts}
+use Rattle.ledger_report.specs.CountsLines.{IsRightLine, TakesWhere, Writes, tap_frames, tap_network, taps_in}
 use Rattle.ledger_report.specs.declared.counts_lines.TapEnding.{TapEnding}
 use Rattle.ledger_report.specs.declared.fault.Refusal.{Refusal}
 use Rattle.ledger_report.specs.declared.fault.Refusal.TheVariants as refusals
 use Rattle.ledger_report.specs.declared.fault.WrongLine.TheVariants as wrongs
-use Rattle.ledger_report.specs.declared.per_network.PerNetwork.{PerNetwork}
+use Rattle.findings.specs.declared.per_network.PerNetwork.{PerNetwork}
 
 -- a text that isn't the line, and its newline
 pub unlike : (made text line : List ℕ) → made ≡ text ++ codes "\n" → text ≢ line → made ≢ line ++ codes "\n"
@@ -50,30 +48,25 @@ link_right table frames links filters taps link counts made line result within a
     taken_by (IsRightLine table frames links filters taps kinds.Link line) made line (link_line link counts) result same differs whole
     (λ says. record {
       place = within;
-      says = (
-        within,
-        λ d. subst (λ (l : VirtualLink). IsLinkLine l (link_counts frames l.id.0) line) (at d)
-            (subst (λ (cs : LinkCounts). IsLinkLine link cs line) are says),
-      );
-      ending = tt;
+      says = λ d. subst (λ (l : VirtualLink). Writes line (link_line l (link_counts frames l.id.0))) (at d)
+          (subst (λ (cs : LinkCounts). Writes line (link_line link cs)) are says);
     })
-    (λ right. subst (λ (cs : LinkCounts). IsLinkLine link cs line) (sym are)
-    (subst (λ (l : VirtualLink). IsLinkLine l (link_counts frames l.id.0) line) (sym (at link)) (right.says.1 link)))
+    (λ right. subst (λ (cs : LinkCounts). Writes line (link_line link cs)) (sym are)
+    (subst (λ (l : VirtualLink). Writes line (link_line l (link_counts frames l.id.0))) (sym (at link)) (right.says link)))
 
 -- the line of the next filter, which accepts so many frames
 pub filter_right : (table : VlTable) (frames : List FrameLine) (links filters taps accepted : ℕ) (made line : List ℕ)
-    (result : Result (Unit {0}) Refusal) → length table.links ≤ links → filters ≤ length table.filters → filters < 8
+    (result : Result (Unit {0}) Refusal) → length table.links ≤ links → filters ≤ length table.filters
     → accepted ≡ filter_count frames filters → OnOk result (made ≡ line ++ codes "\n")
     → IfErr result (λ refusal. (refusal ≡ refusals.Wrong wrongs.Counts) × (made ≢ line ++ codes "\n")) → made ≡ filter_line filters accepted
     → TakesWhere (IsRightLine table frames links filters taps kinds.Filter line) result
-filter_right table frames links filters taps accepted made line result all few below are same differs whole =
+filter_right table frames links filters taps accepted made line result all few are same differs whole =
     taken_by (IsRightLine table frames links filters taps kinds.Filter line) made line (filter_line filters accepted) result same differs whole
     (λ says. record {
       place = (all, few);
-      says = (below, subst (λ (n : ℕ). IsFilterLine filters n line) are says);
-      ending = tt;
+      says = subst (λ (n : ℕ). Writes line (filter_line filters n)) are says;
     })
-    (λ right. subst (λ (n : ℕ). IsFilterLine filters n line) (sym are) right.says.1)
+    (λ right. subst (λ (n : ℕ). Writes line (filter_line filters n)) (sym are) right.says)
 
 -- ---- the lines `tap`
 
@@ -106,20 +99,18 @@ first_known known none network one two three = rw one (rw two three)
 pub first_unknown : (known none : Bool) (network : Network) → known ≡ not none → none ≡ false → network ≡ B → network ≡ (if known then B else A)
 first_unknown known none network one two three = rw one (rw two three)
 
-pub tap_here : (frames : List FrameLine) (endings : PerNetwork (Option TapEnding)) (network : Network) (count : ℕ) (said : Said) (line : List ℕ)
+-- what is so of the next one, of which so many lines of frames are
+pub at_next : (P : Network → ℕ → Type 0) (frames : List FrameLine) (endings : PerNetwork (Option TapEnding)) (network : Network) (count : ℕ)
     → is_some endings.b ≡ false → network ≡ (if is_some endings.a then B else A) → count ≡ tap_frames frames network
-    → IsTapLine network count said line
-    → IsTapLine (tap_network (taps_in endings)) (tap_frames frames (tap_network (taps_in endings))) said line
-tap_here frames endings network count said line none is counts h =
-    subst (λ (n : Network). IsTapLine n (tap_frames frames n) said line) (sym (next_network endings network none is))
-    (subst (λ (n : ℕ). IsTapLine network n said line) counts h)
+    → P network count → P (tap_network (taps_in endings)) (tap_frames frames (tap_network (taps_in endings)))
+at_next P frames endings network count none is counts h =
+    subst (λ (n : Network). P n (tap_frames frames n)) (sym (next_network endings network none is)) (subst (λ (n : ℕ). P network n) counts h)
 
-pub tap_there : (frames : List FrameLine) (endings : PerNetwork (Option TapEnding)) (network : Network) (count : ℕ) (said : Said) (line : List ℕ)
+pub of_next : (P : Network → ℕ → Type 0) (frames : List FrameLine) (endings : PerNetwork (Option TapEnding)) (network : Network) (count : ℕ)
     → is_some endings.b ≡ false → network ≡ (if is_some endings.a then B else A) → count ≡ tap_frames frames network
-    → IsTapLine (tap_network (taps_in endings)) (tap_frames frames (tap_network (taps_in endings))) said line → IsTapLine network count said line
-tap_there frames endings network count said line none is counts h =
-    subst (λ (n : ℕ). IsTapLine network n said line) (sym counts)
-    (subst (λ (n : Network). IsTapLine n (tap_frames frames n) said line) (next_network endings network none is) h)
+    → P (tap_network (taps_in endings)) (tap_frames frames (tap_network (taps_in endings))) → P network count
+of_next P frames endings network count none is counts h =
+    subst (λ (n : ℕ). P network n) (sym counts) (subst (λ (n : Network). P n (tap_frames frames n)) (next_network endings network none is) h)
 
 pub was_none : (known none : Bool) → known ≡ not none → known ≡ false → none ≡ true
 was_none known true same is = refl

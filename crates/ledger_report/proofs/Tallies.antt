@@ -6,7 +6,7 @@ use Rattle.std.proofs.lemmas.List.Sums.{count_by-le-length, length-filter}
 use Rattle.afdx_frame.specs.View.{link_of}
 use Rattle.afdx_frame.specs.declared.key.VlId.{VlId}
 use Rattle.ledger_text.specs.declared.frame.FrameLine.{FrameLine}
-use Rattle.ledger_report.specs.Words.{address_of, counts_of, entries_of, entry_of}
+use Rattle.ledger_report.specs.Counts.{address_of, counts_of, entries_of, entry_of}
 
 pub link_back : (link : Option VlId) → link ≡ link_of (address_of link)
 link_back None = refl

@@ -15,7 +15,7 @@ use Rattle.ledger_text.specs.declared.order.LedgerLine.{LedgerLine}
 use Rattle.ledger_text.specs.declared.order.LedgerLine.TheVariants as lines
 use Rattle.ledger_text.specs.declared.order.LedgerStage.{LedgerStage}
 use Rattle.ledger_text.specs.declared.order.LedgerStage.TheVariants as stages
-use Rattle.ledger_report.specs.CountsRight.{AreCountsRight, IsRightCounts}
+use Rattle.ledger_report.specs.CountsLines.{AreCountsRight, IsRightCounts}
 use Rattle.ledger_report.specs.Wrongs.{AreRight, wrong_of}
 use Rattle.ledger_report.specs.declared.fault.Refusal.{Refusal}
 use Rattle.ledger_report.specs.declared.fault.Refusal.TheVariants as refusals

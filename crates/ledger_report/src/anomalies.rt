@@ -1,11 +1,8 @@
 //! What is counted of a lane or a network, with its first and its last place and its bins.
 
-ghost use Rattle.std.specs.Prelude.{◌≡◌, ◌+◌, ◌<◌, ◌++◌, List, vec_len};
-ghost use Rattle.ledger_report.specs.Sums.{saturated};
-ghost use Rattle.ledger_report.specs.Placing.{IsEarlier, IsLater};
-ghost use Rattle.ledger_report.specs.Extremes.{Hit, IsFirst, IsLast};
+ghost use Rattle.std.specs.Prelude.{◌≡◌, ◌<◌, vec_len};
 
-use crate::moment::FramePlace;
+use crate::moment::{FramePlace, LinePlace};
 use crate::series::{Merge, Series};
 use integrity::Integrity;
 use policing::Policing;
@@ -66,54 +63,15 @@ pub struct AnomalyTally {
 }
 
 /// The earlier of two places.
-fn earlier(held: Option<FramePlace>, place: FramePlace) -> FramePlace
-    ensures { IsEarlier held place result }
-{
-    match held {
-        Some(held) => { if held.is_before(place) { held } else { place } }
-        None => place,
-    }
-}
-
-/// The later of two places.
-fn later(held: Option<FramePlace>, place: FramePlace) -> FramePlace
-    ensures { IsLater held place result }
-{
-    match held {
-        Some(held) => { if held.is_before(place) { place } else { held } }
-        None => place,
-    }
-}
-
-/// The first place of two marks.
-fn first_with(held: Option<FramePlace>, first: Option<FramePlace>) -> Option<FramePlace>
-    ensures { (hits more : List Hit) → IsFirst held hits → IsFirst first more
-        → IsFirst result (more ++ hits) }
-{
-    match first {
-        Some(first) => Some(earlier(held, first)),
-        None => held,
-    }
-}
-
-/// The last place of two marks.
-fn last_with(held: Option<FramePlace>, last: Option<FramePlace>) -> Option<FramePlace>
-    ensures { (hits more : List Hit) → IsLast held hits → IsLast last more
-        → IsLast result (more ++ hits) }
-{
-    match last {
-        Some(last) => Some(later(held, last)),
-        None => held,
+fn earlier(a: Option<FramePlace>, b: Option<FramePlace>) -> Option<FramePlace> {
+    match (a, b) {
+        (Some(a), Some(b)) => Some(a.min(b)),
+        (a, b) => a.or(b),
     }
 }
 
 impl AnomalyTally {
-    ghost use Rattle.std.specs.Prelude.{[], ◌∷◌};
-    ghost use Rattle.ledger_report.specs.Places.{IsMarkOf};
-
-    fn new(alloc: Global) -> AnomalyTally
-        ensures hits { IsMarkOf [] result }
-    {
+    fn new(alloc: Global) -> AnomalyTally {
         AnomalyTally {
             count: 0,
             first: None,
@@ -123,33 +81,24 @@ impl AnomalyTally {
     }
 
     /// Counts a line so often.
-    pub(crate) fn hit(
-        &mut self,
-        bin: usize,
-        place: FramePlace,
-        amount: u64,
-    ) -> Result<(), AllocError>
-        ensures hits { (hits : List Hit) → IsMarkOf hits self.old → IsMarkOf (record {
-          place = place;
-          amount = amount;
-        } ∷ hits) self.new }
-        ensures count { self.new.count ≡ saturated (self.old.count + amount) }
-    {
+    fn hit(&mut self, at: &LinePlace, amount: u64) -> Result<(), AllocError> {
         self.count = self.count.saturating_add(amount);
-        self.first = Some(earlier(self.first, place));
-        self.last = Some(later(self.last, place));
-        self.bins.put(bin, amount)
+        self.first = earlier(self.first, Some(at.place));
+        self.last = self.last.max(Some(at.place));
+        self.bins.put(at.tick, amount)
+    }
+
+    /// Takes so many back.
+    fn take_back(&mut self, tick: u64, amount: u64) {
+        self.count = self.count.saturating_sub(amount);
+        self.bins.take_back(tick, amount);
     }
 
     /// Adds another mark.
-    pub(crate) fn absorb(&mut self, other: &AnomalyTally) -> Result<(), AllocError>
-        ensures hits { (hits more : List Hit) → IsMarkOf hits self.old → IsMarkOf more other.now
-            → IsMarkOf (more ++ hits) self.new }
-        ensures count { self.new.count ≡ saturated (self.old.count + other.now.count) }
-    {
+    fn absorb(&mut self, other: &AnomalyTally) -> Result<(), AllocError> {
         self.count = self.count.saturating_add(other.count);
-        self.first = first_with(self.first, other.first);
-        self.last = last_with(self.last, other.last);
+        self.first = earlier(self.first, other.first);
+        self.last = self.last.max(other.last);
         self.bins.absorb(&other.bins)
     }
 }
@@ -162,29 +111,17 @@ pub struct Anomalies {
 }
 
 impl Anomaly {
-    ghost use Rattle.ledger_report.specs.Marks.{sign_index};
-
     /// Where its mark stands.
     #[inline(always)]
     fn index(self) -> usize
-        ensures index { result ≡ sign_index self }
-        ensures within { result < 14 }
+        ensures { result < 14 }
     {
         self as usize
     }
 }
 
 impl Anomalies {
-    ghost use Rattle.std.specs.Prelude.{[], IfOk};
-    ghost use Rattle.ledger_report.specs.Places.{IsMarkOf};
-    ghost use Rattle.ledger_report.specs.Keeping.{tallies, tally_of};
-    ghost use Rattle.ledger_report.specs.declared.anomalies.Anomaly.{Anomaly};
-    ghost use Rattle.ledger_report.specs.Marks.{HasHits, KeepsOthers, TakesHit, mark_at, sign_index};
-    ghost use Rattle.ledger_report.specs.declared.anomalies.AnomalyTally.{AnomalyTally};
-
-    pub(crate) fn new(alloc: Global) -> Result<Anomalies, AllocError>
-        ensures hits { IfOk result (λ signs. (sign : Anomaly) → HasHits signs sign []) }
-    {
+    pub(crate) fn new(alloc: Global) -> Result<Anomalies, AllocError> {
         let mut marks = Vec::with_capacity(alloc, ANOMALIES)?;
         for _ in 0..ANOMALIES {
             marks.push(AnomalyTally::new(alloc))?;
@@ -193,9 +130,7 @@ impl Anomalies {
     }
 
     /// The mark of a sign.
-    pub fn of(&self, sign: Anomaly) -> &AnomalyTally
-        ensures { (none : AnomalyTally) → result.now ≡ mark_at self.now sign none }
-    {
+    pub fn of(&self, sign: Anomaly) -> &AnomalyTally {
         &self.marks[sign.index()]
     }
 
@@ -204,39 +139,26 @@ impl Anomalies {
     pub(crate) fn hit(
         &mut self,
         sign: Anomaly,
-        bin: usize,
-        place: FramePlace,
+        at: &LinePlace,
         amount: u64,
-    ) -> Result<(), AllocError>
-        ensures takes { TakesHit sign (record {
-          place = place;
-          amount = amount;
-        }) self.old self.new }
-        ensures others { KeepsOthers sign self.old self.new }
-        ensures count { (none : AnomalyTally) → (mark_at self.new sign none).count
-            ≡ saturated ((mark_at self.old sign none).count + amount) }
-    {
-        self.marks[sign.index()].hit(bin, place, amount)
+    ) -> Result<(), AllocError> {
+        self.marks[sign.index()].hit(at, amount)
+    }
+
+    /// Takes so many of a sign back.
+    pub(crate) fn take_back(&mut self, sign: Anomaly, tick: u64, amount: u64) {
+        self.marks[sign.index()].take_back(tick, amount);
     }
 
     /// Adds a mark to that of a sign.
-    pub(crate) fn absorb(&mut self, sign: Anomaly, other: &AnomalyTally) -> Result<(), AllocError>
-        ensures takes { (hits more : List Hit) → HasHits self.old sign hits → IsMarkOf more other.now
-            → HasHits self.new sign (more ++ hits) }
-        ensures others { KeepsOthers sign self.old self.new }
-        ensures count { (none : AnomalyTally) → (mark_at self.new sign none).count
-            ≡ saturated ((mark_at self.old sign none).count + other.now.count) }
-    {
+    pub(crate) fn absorb(&mut self, sign: Anomaly, other: &AnomalyTally) -> Result<(), AllocError> {
         self.marks[sign.index()].absorb(other)
     }
 
-    pub(crate) fn fold(&mut self)
-        ensures tallies { (sign : Anomaly) (none : AnomalyTally) → tally_of (mark_at self.new sign none)
-            ≡ tally_of (mark_at self.old sign none) }
-        ensures all { tallies self.new ≡ tallies self.old }
-    {
+    /// Doubles the width of all bins so often in all.
+    pub(crate) fn align(&mut self, doublings: u32) {
         for mark in self.marks.iter_mut() {
-            mark.bins.fold();
+            mark.bins.align(doublings);
         }
     }
 }

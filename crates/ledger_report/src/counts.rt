@@ -3,7 +3,7 @@
 ghost use Rattle.std.specs.Prelude.{◌≡◌, ◌<◌, List, [], ◌∷◌, ◌++◌, ℕ, length, slice_index, IfOk};
 ghost use Rattle.ledger_text.specs.declared.bounds.TheConstants.{MAX_LINES};
 ghost use Rattle.ledger_text.specs.declared.frame.FrameLine.{FrameLine};
-ghost use Rattle.ledger_report.specs.Words.{counts_of, filter_count, is_on, network_counts};
+ghost use Rattle.ledger_report.specs.Counts.{counts_of, filter_count, is_on, network_counts};
 ghost use Rattle.verdict_ledger.specs.declared.bounds.TheConstants.{MAX_FILTERS};
 
 use afdx_frame::{Network, VlId};
@@ -20,8 +20,7 @@ pub struct FrameCounts {
 }
 
 impl FrameCounts {
-    ghost use Rattle.ledger_report.specs.Words.{link_counts};
-    ghost use Rattle.ledger_report.specs.Counting.{AreCountsOf};
+    ghost use Rattle.ledger_report.specs.Counts.{AreCountsOf, link_counts};
 
     pub(crate) fn new(alloc: Global) -> Result<FrameCounts, AllocError>
         ensures { IfOk result (AreCountsOf []) }
@@ -104,7 +103,7 @@ fn slice_of(filters: &[u64; MAX_FILTERS]) -> &[u64]
 
 /// Is the line on this network?
 #[inline(always)]
-fn is_on(network: Network, line: &FrameLine) -> bool
+pub(crate) fn is_on(network: Network, line: &FrameLine) -> bool
     ensures { result ≡ is_on network line.now }
 {
     match (network, line.network) {

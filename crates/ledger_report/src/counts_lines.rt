@@ -3,20 +3,18 @@
 ghost use Rattle.std.specs.Prelude.{◌≡◌, ◌≢◌, ◌+◌, ◌++◌, ℕ, List, [], codes, true, IfErr, IfOk, MatchOption, OnOk};
 ghost use Rattle.std.specs.String.{string_bytes};
 ghost use Rattle.vl_config.specs.Document.{VlTable};
-ghost use Rattle.vl_config.specs.Link.{VirtualLink};
 ghost use Rattle.ledger_text.specs.declared.frame.FrameLine.{FrameLine};
 ghost use Rattle.ledger_text.specs.declared.order.Counts.TheVariants as kinds;
-ghost use Rattle.ledger_report.specs.Counting.{AreCountsOf};
-ghost use Rattle.ledger_report.specs.CountsLines.{HasCounted, Moves};
-ghost use Rattle.ledger_report.specs.CountsRight.{HasEndings, IsRightLine, MovesEndings, TakesWhere, taps_in};
+ghost use Rattle.ledger_report.specs.Counts.{AreCountsOf};
+ghost use Rattle.ledger_report.specs.CountsLines.{HasCounted, IsRightLine, Moves, TakesEnding, TakesWhere, tap_frames, tap_network, taps_in};
 ghost use Rattle.ledger_report.specs.TapLines.{IsReason, IsTapLine, Said, reason_text, said_in};
 ghost use Rattle.ledger_report.specs.declared.fault.Refusal.TheVariants as refusals;
 ghost use Rattle.ledger_report.specs.declared.fault.WrongLine.TheVariants as wrongs;
 
 use crate::counts::FrameCounts;
 use crate::fault::{Refusal, WrongLine};
-use crate::per_network::PerNetwork;
 use afdx_frame::Network;
+use findings::PerNetwork;
 use ledger_text::Counts as CountsLine;
 use std::alloc::{AllocError, Global};
 use std::fmt::Write;
@@ -50,6 +48,8 @@ const MAX_REASON: usize = 32;
 #[derive(Drop)]
 pub struct CountsLines {
     links: usize,
+    /// How many lines of links stood before the line of counts that came last.
+    pub(crate) links_before: usize,
     filters: usize,
     pub endings: PerNetwork<Option<TapEnding>>,
     pub whole: bool,
@@ -74,11 +74,11 @@ fn before_newline(text: &[u8]) -> Option<&[u8]>
 
 impl CountsLines {
     pub(crate) fn new(alloc: Global) -> CountsLines
-        ensures counted { (links : List VirtualLink) → HasCounted links [] result }
-        ensures endings { HasEndings [] result.endings }
+        ensures { HasCounted [] result }
     {
         CountsLines {
             links: 0,
+            links_before: 0,
             filters: 0,
             endings: PerNetwork { a: None, b: None },
             whole: false,
@@ -111,14 +111,14 @@ impl CountsLines {
         kind: CountsLine,
         line: &[u8],
     ) -> Result<(), Refusal>
-        ensures moves { OnOk result (Moves kind self.old self.new) }
         ensures right { (lines : List FrameLine) → AreCountsOf lines counts.now
             → TakesWhere (IsRightLine config.now lines self.old.links self.old.filters
             (taps_in self.old.endings) kind line.now) result }
-        ensures endings { OnOk result ((lines : List FrameLine) → AreCountsOf lines counts.now
-            → MovesEndings lines kind line.now self.old.endings self.new.endings) }
+        ensures moves { OnOk result ((lines : List FrameLine) → AreCountsOf lines counts.now
+            → Moves lines kind line.now self.old self.new) }
     {
         self.text.clear();
+        self.links_before = self.links;
         match kind {
             CountsLine::Link => self.take_link(config, counts, line),
             CountsLine::Filter => self.take_filter(config, counts, line),
@@ -186,7 +186,9 @@ impl CountsLines {
             → TakesWhere (IsRightLine config.now lines self.old.links self.old.filters
             (taps_in self.old.endings) kinds.Tap line.now) result }
         ensures endings { OnOk result ((lines : List FrameLine) → AreCountsOf lines counts.now
-            → MovesEndings lines kinds.Tap line.now self.old.endings self.new.endings) }
+            → TakesEnding (tap_network (taps_in self.old.endings))
+            (tap_frames lines (tap_network (taps_in self.old.endings))) line.now
+            self.old.endings self.new.endings) }
         ensures rest { self.new ≡ record self.old { endings = self.new.endings } }
     {
         let network = if self.endings.a.is_none() {
@@ -198,7 +200,7 @@ impl CountsLines {
         let complete = self.filters > config.filters().len() && self.endings.b.is_none();
         match ending_of(alloc, network, frames, line)? {
             Some(ending) if complete => {
-                *self.endings.of_mut(network) = Some(ending);
+                put_ending(&mut self.endings, network, ending);
                 Ok(())
             }
             _ => Err(Refusal::Wrong(WrongLine::Counts)),
@@ -219,6 +221,17 @@ impl CountsLines {
         self.whole = true;
         push_total(&mut self.text, counts.all())?;
         self.compare(line)
+    }
+}
+
+/// Makes the ending of a network known.
+fn put_ending(endings: &mut PerNetwork<Option<TapEnding>>, network: Network, ending: TapEnding)
+    ensures { (frames : ℕ) (line : List ℕ) → IsTapLine network frames (said_in ending) line
+        → TakesEnding network frames line endings.old endings.new }
+{
+    match network {
+        Network::A => endings.a = Some(ending),
+        Network::B => endings.b = Some(ending),
     }
 }
 

@@ -2,6 +2,7 @@
 
 ghost use Rattle.std.specs.Prelude.{◌≡◌};
 
+use crate::disputed::Disputed;
 use ledger_text::LineFault;
 use std::alloc::AllocError;
 use thiserror::Error;
@@ -50,7 +51,14 @@ pub enum NoReport {
     Memory,
 }
 
-/// Why a line isn't noted.
+/// Why there is no report, and of a line that contradicts the table, on which link.
+#[derive(Drop)]
+pub struct ReportRefused {
+    pub fault: NoReport,
+    pub disputed: Option<Disputed>,
+}
+
+/// Why a line isn't taken.
 #[derive(Clone, Copy, PartialEq, Eq)]
 pub enum Refusal {
     Wrong(WrongLine),
@@ -64,15 +72,5 @@ impl From<AllocError> for Refusal {
 
     fn from(_error: AllocError) -> Refusal {
         Refusal::Memory
-    }
-}
-
-impl From<WrongLine> for Refusal {
-    ghost use Rattle.ledger_report.specs.declared.fault.Refusal.TheVariants.{Wrong};
-
-    ghost from_gives = { λ wrong e. e ≡ Wrong wrong };
-
-    fn from(wrong: WrongLine) -> Refusal {
-        Refusal::Wrong(wrong)
     }
 }

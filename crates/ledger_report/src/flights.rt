@@ -1,35 +1,23 @@
 //! A link of two reports.
 
-ghost use Rattle.std.specs.Prelude.{◌≡◌};
-ghost use Rattle.ledger_report.specs.Flights.{comparison_at, count_both, frames_of};
-ghost use Rattle.ledger_report.specs.Flights.{is_new_outside, least_of, numbers_of, skew_of};
-ghost use Rattle.ledger_report.specs.declared.link.LinkReport.{LinkReport};
-ghost use Rattle.ledger_report.specs.declared.anomalies.AnomalyTally.{AnomalyTally};
-
 use crate::numbers::LinkNumbers;
 use crate::worse::LinkComparison;
 use crate::{Anomaly, LinkReport, Report};
 use afdx_frame::VlId;
 
 /// The lines of a link on both networks.
-fn frames_of(link: &LinkReport) -> u64
-    ensures { result ≡ frames_of link.now }
-{
+fn frames_of(link: &LinkReport) -> u64 {
     link.lanes.a.frames.saturating_add(link.lanes.b.frames)
 }
 
 /// The count of a sign on both networks.
-fn count_both(link: &LinkReport, sign: Anomaly) -> u64
-    ensures { (none : AnomalyTally) → result ≡ count_both none link.now sign }
-{
+fn count_both(link: &LinkReport, sign: Anomaly) -> u64 {
     let a = link.lanes.a.signs.of(sign).count;
     a.saturating_add(link.lanes.b.signs.of(sign).count)
 }
 
 /// The least interval of both networks, where there is one.
-fn least_of(link: &LinkReport) -> Option<u64>
-    ensures { result ≡ least_of link.now }
-{
+fn least_of(link: &LinkReport) -> Option<u64> {
     let (a, b) = (&link.lanes.a, &link.lanes.b);
     if a.intervals == 0 && b.intervals == 0 {
         None
@@ -39,9 +27,7 @@ fn least_of(link: &LinkReport) -> Option<u64>
 }
 
 /// The greatest skew of copies and of late deliveries, where there is one.
-fn skew_of(link: &LinkReport) -> Option<u64>
-    ensures { result ≡ skew_of link.now }
-{
+fn skew_of(link: &LinkReport) -> Option<u64> {
     if link.copies == 0 && link.late_greatest == 0 {
         None
     } else {
@@ -50,9 +36,7 @@ fn skew_of(link: &LinkReport) -> Option<u64>
 }
 
 /// The numbers of a link in a flight, where it has a frame.
-fn numbers_of(report: &Report, link: &LinkReport) -> Option<LinkNumbers>
-    ensures { (none : AnomalyTally) → result ≡ numbers_of none report.now link.now }
-{
+fn numbers_of(report: &Report, link: &LinkReport) -> Option<LinkNumbers> {
     let frames = frames_of(link);
     if frames == 0 {
         return None;
@@ -77,10 +61,7 @@ fn numbers_of(report: &Report, link: &LinkReport) -> Option<LinkNumbers>
 
 /// The link at this index of the table in both reports, which are against that table. Nothing
 /// where a report doesn't have it.
-pub fn comparison_at(today: &Report, baseline: &Report, index: usize) -> Option<LinkComparison>
-    ensures { (none : AnomalyTally) (no_link : LinkReport)
-        → result ≡ comparison_at none no_link today.now baseline.now index }
-{
+pub fn comparison_at(today: &Report, baseline: &Report, index: usize) -> Option<LinkComparison> {
     match (today.links.get(index), baseline.links.get(index)) {
         (Some(link), Some(before)) => Some(LinkComparison {
             link: link.id,
@@ -93,8 +74,6 @@ pub fn comparison_at(today: &Report, baseline: &Report, index: usize) -> Option<
 }
 
 /// Does a link outside the table have frames today, and none in the baseline?
-pub fn is_new_outside(today: &Report, baseline: &Report, id: VlId) -> bool
-    ensures { result ≡ is_new_outside today.now baseline.now id.0 }
-{
+pub fn is_new_outside(today: &Report, baseline: &Report, id: VlId) -> bool {
     today.outside_link(id).is_some() && baseline.outside_link(id).is_none()
 }

@@ -10,45 +10,40 @@
 //! ```
 #![tactic(auto)]
 
-mod absence;
 mod anomalies;
 mod bounds;
 mod counts;
 mod counts_lines;
+mod deliveries;
+mod disputed;
 mod fault;
 mod flights;
-mod gaps;
+mod frame_lines;
 mod lane;
 mod link;
 mod median;
 mod moment;
 mod network;
 mod numbers;
-mod pairing;
-mod per_network;
-mod presence;
+mod per_number;
 mod report;
 mod series;
 mod statistics;
 mod worse;
 
-pub use absence::Absence;
 pub use anomalies::{Anomalies, Anomaly, AnomalyTally};
-pub use bounds::{
-    ABSENT_LINES, BINS, FIRST_WIDTH, LONG_TIME, LONG_TIMES, MAX_SILENCES, SILENT_LINES,
-    STOPPED_LINES, WINDOW_BAGS, bounds_are_documented,
-};
+pub use bounds::{BINS, FIRST_WIDTH};
 pub use counts::FrameCounts;
 pub use counts_lines::{TapEnd, TapEnding};
-pub use fault::{NoReport, WrongLine};
+pub use disputed::{Difference, Disputed};
+pub use fault::{NoReport, ReportRefused, WrongLine};
+pub use findings::PerNetwork;
 pub use flights::{comparison_at, is_new_outside};
-pub use gaps::{Gaps, Interval};
 pub use lane::LaneReport;
-pub use link::{Fates, LinkReport};
+pub use link::LinkReport;
 pub use moment::FramePlace;
-pub use network::{NetworkReport, Silence};
+pub use network::NetworkReport;
 pub use numbers::{COUNTS, Count, LinkNumbers};
-pub use per_network::PerNetwork;
 pub use report::{OutsideLink, Report, read_report};
 pub use series::Series;
 pub use verdict_ledger::{LinkCounts, Totals};

@@ -1,8 +1,6 @@
 //! Where a line stands.
 
-ghost use Rattle.ledger_report.specs.Placing.{Before, NotAfter};
-ghost use Rattle.std.specs.Bool.{MatchBool};
-
+use crate::bounds::FIRST_WIDTH;
 use afdx_frame::Network;
 
 /// A frame's place in its network's recording.
@@ -14,20 +12,22 @@ pub struct FramePlace {
     pub number: u32,
 }
 
-impl FramePlace {
-    /// Does it stand before another place of its network?
-    #[inline]
-    pub fn is_before(self, other: FramePlace) -> bool
-        ensures { MatchBool result (Before self other) (NotAfter other self) }
-    {
-        self.stamp < other.stamp || (self.stamp == other.stamp && self.number < other.number)
-    }
-}
-
-/// A line's network and place, and the bin of its timestamp.
+/// A line's network and place, and in which tick of the ledger it stands: ticks are as long as bins at first.
 #[derive(Clone, Copy)]
 pub struct LinePlace {
     pub network: Network,
     pub place: FramePlace,
-    pub bin: usize,
+    pub tick: u64,
+}
+
+impl LinePlace {
+    /// Of a line in a ledger that starts at this time.
+    #[inline]
+    pub(crate) fn of(network: Network, place: FramePlace, start: u64) -> LinePlace {
+        LinePlace {
+            network,
+            place,
+            tick: place.stamp.saturating_sub(start) / FIRST_WIDTH,
+        }
+    }
 }

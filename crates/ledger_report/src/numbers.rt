@@ -1,8 +1,5 @@
 //! The numbers of a link in one flight.
 
-ghost use Rattle.std.specs.Prelude.{◌≡◌};
-ghost use Rattle.ledger_report.specs.FlightNumbers.{count_in, nearest, rate_of, share_of};
-
 /// What is counted of a link's lines.
 #[derive(Clone, Copy, PartialEq, Eq)]
 pub enum Count {
@@ -74,9 +71,7 @@ const SECOND: u64 = 1_000_000_000 * MILLI;
 const THOUSAND: u64 = 1_000 * MILLI;
 
 /// `value * scale / by`, rounded half up, at most 2^64 - 1; nothing where `by` is 0.
-fn nearest(value: u64, scale: u64, by: u64) -> Option<u64>
-    ensures { result ≡ nearest value scale by }
-{
+fn nearest(value: u64, scale: u64, by: u64) -> Option<u64> {
     if by == 0 {
         return None;
     }
@@ -90,9 +85,7 @@ fn nearest(value: u64, scale: u64, by: u64) -> Option<u64>
 
 impl LinkNumbers {
     /// How many there are of what is counted.
-    pub fn count(&self, count: Count) -> u64
-        ensures { result ≡ count_in self.now count }
-    {
+    pub fn count(&self, count: Count) -> u64 {
         match count {
             Count::TooLong => self.too_long,
             Count::Excess => self.excess,
@@ -107,16 +100,12 @@ impl LinkNumbers {
     }
 
     /// Frames by second, in thousandths, rounded half up; nothing where the flight has no length.
-    pub fn rate(&self) -> Option<u64>
-        ensures { result ≡ rate_of self.now }
-    {
+    pub fn rate(&self) -> Option<u64> {
         nearest(self.frames, SECOND, self.length)
     }
 
     /// How many there are in a thousand of the link's frames, in thousandths, rounded half up.
-    pub fn share(&self, count: Count) -> Option<u64>
-        ensures { result ≡ share_of self.now count }
-    {
+    pub fn share(&self, count: Count) -> Option<u64> {
         nearest(self.count(count), THOUSAND, self.frames)
     }
 }

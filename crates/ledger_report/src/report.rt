@@ -1,31 +1,25 @@
 //! From a ledger to its report.
 
-ghost use Rattle.std.specs.Prelude.{◌≡◌, ℕ, List, [], Option, IfOk, false};
+ghost use Rattle.std.specs.Prelude.{◌≡◌, ℕ, List, [], Option, IfErr, IfOk, MatchResult, false};
 ghost use Rattle.ledger_text.specs.Ledger.{has_failed as ledger_failed};
-ghost use Rattle.vl_config.specs.Link.{VirtualLink};
-ghost use Rattle.ledger_report.specs.Counting.{AreCountsOf};
-ghost use Rattle.ledger_report.specs.Holding.{HoldsAlone};
-ghost use Rattle.ledger_report.specs.Links.{AreEach};
-ghost use Rattle.ledger_report.specs.Noting.{IsAccountOf};
-ghost use Rattle.ledger_report.specs.CountsLines.{HasCounted};
-ghost use Rattle.ledger_report.specs.SignSums.{HasSignsOf};
-ghost use Rattle.ledger_report.specs.Span.{HasSpan};
-ghost use Rattle.ledger_report.specs.Judged.{HasJudged, HasReadRight, TellsRight};
-ghost use Rattle.ledger_report.specs.Reading.{HasNoted, HasRead, report_of};
-ghost use Rattle.ledger_report.specs.Refused.{IsRefused, line_fault, read_fault, source_at};
 ghost use Rattle.ledger_text.specs.Reader.{source_of};
-ghost use Rattle.std.specs.Prelude.{IfErr, MatchResult};
-ghost use Rattle.vl_config.specs.Document.{VlTable};
+ghost use Rattle.ledger_report.specs.Counts.{AreCountsOf};
+ghost use Rattle.ledger_report.specs.CountsLines.{HasCounted};
+ghost use Rattle.ledger_report.specs.FrameLines.{HasTaken};
+ghost use Rattle.ledger_report.specs.Reading.{HasNoted, IsRead, TellsLedger};
+ghost use Rattle.ledger_report.specs.Refused.{IsRefused, line_fault, read_fault, source_at};
 
 use crate::counts::FrameCounts;
 use crate::counts_lines::{CountsLines, TapEnding};
-use crate::fault::{NoReport, Refusal, WrongLine};
+use crate::disputed::Disputed;
+use crate::fault::{NoReport, Refusal, ReportRefused, WrongLine};
+use crate::frame_lines::FrameLines;
 use crate::link::LinkReport;
 use crate::moment::{FramePlace, LinePlace};
 use crate::network::NetworkReport;
-use crate::per_network::PerNetwork;
 use crate::statistics::Statistics;
 use afdx_frame::{Network, VlId};
+use findings::{Findings, PerNetwork};
 use ledger_text::{FoundLine, LedgerLine, LedgerReader, LedgerStop, LinesRefused, ReadFault};
 use pcap_io::TapSource;
 use std::alloc::{AllocError, Global};
@@ -42,13 +36,7 @@ pub struct OutsideLink {
 }
 
 impl OutsideLink {
-    ghost use Rattle.std.specs.Prelude.{◌+◌, ◌==◌, if◌then◌else◌};
-    ghost use Rattle.ledger_report.specs.Outside.{no_frames};
-    ghost use Rattle.ledger_report.specs.Sums.{saturated};
-
-    pub(crate) fn none() -> OutsideLink
-        ensures { result ≡ no_frames }
-    {
+    pub(crate) fn none() -> OutsideLink {
         OutsideLink {
             frames: 0,
             network: Network::A,
@@ -60,12 +48,7 @@ impl OutsideLink {
     }
 
     /// Counts a frame.
-    pub(crate) fn count(&mut self, at: &LinePlace)
-        ensures frames { self.new.frames ≡ saturated (self.old.frames + 1) }
-        ensures network { self.new.network
-            ≡ (if self.old.frames == 0 then at.now.network else self.old.network) }
-        ensures first { self.new.first ≡ (if self.old.frames == 0 then at.now.place else self.old.first) }
-    {
+    pub(crate) fn count(&mut self, at: &LinePlace) {
         if self.frames == 0 {
             self.network = at.network;
             self.first = at.place;
@@ -87,6 +70,8 @@ pub struct Report {
     pub links: Vec<LinkReport>,
     /// By identifier, the links outside the table; none where there is no such frame.
     pub outside: Vec<OutsideLink>,
+    /// What went wrong, worst first.
+    pub findings: Findings,
     /// The counts of lines by their words.
     pub counts: FrameCounts,
     /// How the recordings end, where the ledger says so.
@@ -98,12 +83,8 @@ pub struct Report {
 }
 
 impl Report {
-    ghost use Rattle.ledger_report.specs.Outside.{outside_of};
-
     /// The links outside the table that have a frame.
-    pub fn outside_link(&self, id: VlId) -> Option<OutsideLink>
-        ensures { result ≡ outside_of self.now.outside.items id.0 }
-    {
+    pub fn outside_link(&self, id: VlId) -> Option<OutsideLink> {
         match self.outside.get(usize::from(id.0)) {
             Some(link) if link.frames > 0 => Some(*link),
             _ => None,
@@ -111,7 +92,7 @@ impl Report {
     }
 }
 
-/// The fault of a line that isn't noted.
+/// The fault of a line that isn't taken.
 fn line_fault(line: u64, refusal: Refusal) -> NoReport
     ensures { result ≡ line_fault line refusal }
 {
@@ -138,8 +119,9 @@ fn read_fault(fault: ReadFault) -> NoReport
 #[derive(Drop)]
 struct Reading {
     counts: FrameCounts,
-    statistics: Statistics,
+    frames: FrameLines,
     lines: CountsLines,
+    statistics: Statistics,
 }
 
 /// Reads up to the ledger's end. Some: where it ends before its last line.
@@ -149,30 +131,25 @@ fn read_lines<S: TapSource>(
     ledger: &mut LedgerReader<S>,
     reading: &mut Reading,
 ) -> Result<Option<LedgerStop>, NoReport>
-    requires sound { ledger_failed ledger.old ≡ false }
-    ensures read { (bytes : Option (List ℕ)) (failures : ℕ) (links : List VirtualLink)
-        → links ≡ config.now.links
-        → HasNoted S.TapSource bytes failures links [] ledger.old reading.old.counts reading.old.statistics
-        reading.old.lines
-        → IfOk result (λ stop. HasRead bytes links stop
-        reading.new.counts reading.new.statistics reading.new.lines) }
-    ensures judged { (bytes : Option (List ℕ)) (failures : ℕ) (table : VlTable) → table ≡ config.now
-        → HasNoted S.TapSource bytes failures table.links [] ledger.old reading.old.counts
-        reading.old.statistics reading.old.lines
-        → HasJudged table [] reading.old.statistics reading.old.lines
+    requires { ledger_failed ledger.old ≡ false }
+    ensures { (bytes : Option (List ℕ)) (failures : ℕ)
+        → HasNoted S.TapSource bytes failures config.now [] ledger.old
+        reading.old.counts reading.old.frames reading.old.lines
         → MatchResult result
-        (λ stop. HasReadRight bytes table stop
-        reading.new.counts reading.new.statistics reading.new.lines)
-        (λ fault. IsRefused table (record { remaining = bytes; failures = failures })
+        (λ stop. IsRead bytes config.now stop reading.new.counts
+        reading.new.lines.endings reading.new.lines.whole)
+        (λ fault. IsRefused config.now (record { remaining = bytes; failures = failures })
         (source_at S.TapSource (source_of ledger.new)) fault) }
 {
     loop {
         match ledger.advance() {
             Ok(FoundLine::Line(LedgerLine::Frame(frame))) => {
                 reading.counts.count(&frame);
-                match reading.statistics.note(&frame) {
-                    Ok(()) => {}
-                    Err(refusal) => return Err(line_fault(ledger.number(), refusal)),
+                if let Err(refusal) = reading.frames.take(config, &frame) {
+                    return Err(line_fault(ledger.number(), refusal));
+                }
+                if let Err(AllocError) = reading.statistics.note(&frame, &reading.frames) {
+                    return Err(NoReport::Memory);
                 }
             }
             Ok(FoundLine::Line(LedgerLine::Head)) => {}
@@ -193,65 +170,100 @@ fn read_lines<S: TapSource>(
 
 /// Reads a ledger, and makes its report against the table that it was judged by.
 ///
-/// One pass, numbers alone: the memory is bounded by the table's links, some 35 KB each, whatever the
+/// One pass, numbers alone: the memory is bounded by the table's links, some 40 KB each, whatever the
 /// ledger's length.
 ///
 /// # Errors
 ///
 /// `Line` names the first line that is none of a ledger, or contradicts the table or the lines before it, and
-/// says what is wrong with it: of what `WrongLine` lists the first that holds. `Read` says that the source
-/// failed. `Memory` may come at any line.
+/// says what is wrong with it: of what `WrongLine` lists the first that holds. `disputed` is the link, where
+/// the table may be what is wrong. `Read` says that the source failed. `Memory` may come at any line.
 pub fn read_report<S: TapSource + Drop>(
     alloc: Global,
     config: &Config,
     source: S,
-) -> Result<Report, NoReport>
-    ensures told { IfOk result (TellsRight (S.remaining source) config.now) }
-    ensures refused { IfErr result (λ fault. (after : S) × IsRefused config.now
-        (source_at S.TapSource source) (source_at S.TapSource after) fault) }
+) -> Result<Report, ReportRefused>
+    ensures told { IfOk result (TellsLedger (S.remaining source) config.now) }
+    ensures refused { IfErr result (λ refused. (after : S) × IsRefused config.now
+        (source_at S.TapSource source) (source_at S.TapSource after) refused.fault) }
 {
     let mut ledger = match LedgerReader::new(alloc, source) {
         Ok(ledger) => ledger,
-        Err(LinesRefused { source: _ }) => return Err(NoReport::Memory),
+        Err(LinesRefused { source: _ }) => {
+            return Err(ReportRefused {
+                fault: NoReport::Memory,
+                disputed: None,
+            });
+        }
     };
     let mut reading = match Reading::new(alloc, config) {
         Ok(reading) => reading,
-        Err(AllocError) => return Err(NoReport::Memory),
+        Err(AllocError) => {
+            return Err(ReportRefused {
+                fault: NoReport::Memory,
+                disputed: None,
+            });
+        }
     };
-    let stop = read_lines(alloc, config, &mut ledger, &mut reading)?;
-    match reading.statistics.end() {
+    let stop = match read_lines(alloc, config, &mut ledger, &mut reading) {
+        Ok(stop) => stop,
+        Err(fault) => {
+            let disputed = reading.disputed(alloc, config, ledger.line(), fault);
+            return Err(ReportRefused { fault, disputed });
+        }
+    };
+    match reading.statistics.end(&reading.lines.endings) {
         Ok(()) => Ok(reading.into_report(stop)),
-        Err(AllocError) => Err(NoReport::Memory),
+        Err(AllocError) => Err(ReportRefused {
+            fault: NoReport::Memory,
+            disputed: None,
+        }),
     }
 }
 
 impl Reading {
     fn new(alloc: Global, config: &Config) -> Result<Reading, AllocError>
         ensures counts { IfOk result (λ reading. AreCountsOf [] reading.counts) }
-        ensures account { IfOk result (λ reading. IsAccountOf config.now.links [] reading.statistics) }
-        ensures span { IfOk result (λ reading. HasSpan [] reading.statistics) }
-        ensures alone { IfOk result (λ reading.
-            AreEach HoldsAlone config.now.links [] reading.statistics.links.items) }
-        ensures signs { IfOk result (λ reading. HasSignsOf config.now.links [] reading.statistics) }
-        ensures lines { IfOk result (λ reading. (links : List VirtualLink)
-            → HasCounted links [] reading.lines) }
-        ensures judged { IfOk result (λ reading. (table : VlTable)
-            → HasJudged table [] reading.statistics reading.lines) }
+        ensures frames { IfOk result (λ reading. HasTaken [] reading.frames) }
+        ensures lines { IfOk result (λ reading. HasCounted [] reading.lines) }
     {
         Ok(Reading {
             counts: FrameCounts::new(alloc)?,
-            statistics: Statistics::new(alloc, config)?,
+            frames: FrameLines::new(alloc)?,
             lines: CountsLines::new(alloc),
+            statistics: Statistics::new(alloc, config)?,
         })
     }
 
+    /// On which link the line and the table differ that was refused for this.
+    fn disputed(
+        &self,
+        alloc: Global,
+        config: &Config,
+        line: &[u8],
+        fault: NoReport,
+    ) -> Option<Disputed> {
+        match fault {
+            NoReport::Line {
+                wrong: WrongLine::Counts,
+                ..
+            } => Disputed::of_counts(alloc, config, self.lines.links_before, line),
+            NoReport::Line { wrong, .. } => Disputed::of_frame(config, &self.frames, line, wrong),
+            NoReport::Read | NoReport::Memory => None,
+        }
+    }
+
     fn into_report(self, stop: Option<LedgerStop>) -> Report
-        ensures { result ≡ report_of self.counts self.statistics self.lines stop }
+        ensures counts { result.counts ≡ self.counts }
+        ensures endings { result.endings ≡ self.lines.endings }
+        ensures whole { result.whole ≡ self.lines.whole }
+        ensures stop { result.stop ≡ stop }
     {
         let Reading {
             counts,
-            statistics,
+            frames: _,
             lines,
+            statistics,
         } = self;
         let end = statistics.end_stamp();
         Report {
@@ -261,6 +273,7 @@ impl Reading {
             networks: statistics.networks,
             links: statistics.links,
             outside: statistics.outside,
+            findings: statistics.findings,
             counts,
             endings: lines.endings,
             whole: lines.whole,

@@ -40,24 +40,58 @@ impl Merge {
 #[derive(Drop)]
 pub struct Series {
     merge: Merge,
+    /// How often the width of its bins was doubled: 2^doublings ticks.
+    doublings: u32,
     bins: Vec<u64>,
     ghost whole: { 0 < vec_len bins → vec_len bins ≡ BINS },
 }
 
-impl Series {
-    ghost use Rattle.ledger_report.specs.declared.series.Merge.{Merge};
+/// How often bins of a tick are doubled, so that one of them holds this tick.
+pub fn doublings_for(tick: u64) -> u32 {
+    for doublings in 0..64u32 {
+        if bin_of(tick, doublings) < BINS {
+            return doublings;
+        }
+    }
+    64
+}
 
+/// The bin of a tick.
+#[inline]
+fn bin_of(tick: u64, doublings: u32) -> usize {
+    tick.checked_shr(doublings).unwrap_or(0) as usize
+}
+
+impl Series {
     /// A series in which nothing came. Allocates nothing.
     pub(crate) fn new(alloc: Global, merge: Merge) -> Series {
         Series {
             merge,
+            doublings: 0,
             bins: Vec::new(alloc),
         }
     }
 
-    /// Merges a number into a bin. Allocates at the first one alone.
+    /// Merges a number into the bin of a tick. Allocates at the first one alone.
     #[inline]
-    pub(crate) fn put(&mut self, bin: usize, value: u64) -> Result<(), AllocError> {
+    pub(crate) fn put(&mut self, tick: u64, value: u64) -> Result<(), AllocError> {
+        if bin_of(tick, self.doublings) >= BINS {
+            self.align(doublings_for(tick));
+        }
+        self.merge_in(bin_of(tick, self.doublings), value)
+    }
+
+    /// Takes a part of a sum back, out of the bin of a tick.
+    pub(crate) fn take_back(&mut self, tick: u64, value: u64) {
+        let bin = bin_of(tick, self.doublings);
+        if let Some(held) = self.bins.get_mut(bin) {
+            *held = held.saturating_sub(value);
+        }
+    }
+
+    /// Merges a number into a bin.
+    #[inline]
+    fn merge_in(&mut self, bin: usize, value: u64) -> Result<(), AllocError> {
         if self.bins.is_empty() {
             self.bins.resize(BINS, self.merge.nothing())?;
         }
@@ -67,8 +101,16 @@ impl Series {
         Ok(())
     }
 
+    /// Doubles the width so often in all.
+    pub(crate) fn align(&mut self, doublings: u32) {
+        for _ in self.doublings..doublings {
+            self.double();
+        }
+    }
+
     /// Doubles the width: each two bins become one.
-    pub(crate) fn fold(&mut self) {
+    fn double(&mut self) {
+        self.doublings = self.doublings.saturating_add(1);
         let merge = self.merge;
         let bins = self.bins.as_mut_slice();
         if bins.len() < BINS {
@@ -82,19 +124,17 @@ impl Series {
         }
     }
 
-    /// Merges all of another series.
+    /// Merges all of another series, whose bins are as wide.
     pub(crate) fn absorb(&mut self, other: &Series) -> Result<(), AllocError> {
         for (bin, value) in other.bins.iter().enumerate() {
-            self.put(bin, *value)?;
+            self.merge_in(bin, *value)?;
         }
         Ok(())
     }
 
     /// The bins: none where nothing ever came. A bin in which nothing came has 0, and 2^64 - 1 in a series of
     /// least values.
-    pub fn bins(&self) -> &[u64]
-        ensures { result.now ≡ self.now.bins.items }
-    {
+    pub fn bins(&self) -> &[u64] {
         self.bins.as_slice()
     }
 }

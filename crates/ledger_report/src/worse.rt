@@ -1,8 +1,5 @@
 //! What got worse from one flight to the other.
 
-ghost use Rattle.std.specs.Prelude.{◌≡◌};
-ghost use Rattle.ledger_report.specs.Worse.{has_grown, has_lost_copies, is_worse};
-
 use crate::numbers::{Count, LinkNumbers};
 use afdx_frame::VlId;
 
@@ -51,26 +48,20 @@ pub struct LinkComparison {
 }
 
 /// Did a count grow by more than chance would, from `before` in so many frames to `count` in these?
-fn has_grown(count: u64, frames: u64, before: u64, frames_before: u64) -> bool
-    ensures { result ≡ has_grown count frames before frames_before }
-{
+fn has_grown(count: u64, frames: u64, before: u64, frames_before: u64) -> bool {
     let now = u128::from(count) * u128::from(frames_before);
     let then = u128::from(before) * u128::from(frames);
     count.saturating_sub(before) >= LEAST_GROWTH && now.saturating_sub(then) > then
 }
 
 /// Did the link lose its copies?
-fn has_lost_copies(redundancy: bool, copies: u64, before: u64) -> bool
-    ensures { result ≡ has_lost_copies redundancy copies before }
-{
+fn has_lost_copies(redundancy: bool, copies: u64, before: u64) -> bool {
     redundancy && copies == 0 && before > 0
 }
 
 impl LinkComparison {
     /// Did the link get worse so?
-    pub fn is_worse(&self, how: Worse) -> bool
-        ensures { result ≡ is_worse self.now how }
-    {
+    pub fn is_worse(&self, how: Worse) -> bool {
         match (how, self.today, self.baseline) {
             (Worse::New, Some(_), None) => true,
             (Worse::Silent, None, Some(_)) => true,

@@ -132,7 +132,7 @@ fields_read l h g =
     header_reads_back capture_layout k.seconds k.fraction k.captured_len k.original_len (omega (arith, fits)) (omega arith) (omega (arith, g.few)) (omega (arith, g.few, g.original_len_fits))
 
 given_reason : (l : Layout) (late high : ℕ) (h : PacketHeader) (back : Bool) → GivenFields l h → nat_lt (stamp_at l h.seconds h.fraction + late) high ≡ back
-    → reason_at capture_layout late high (given_header l h) ≡ cond back (Some StampBack) None
+    → reason_at capture_layout late high (given_header l h) ≡ cond back (Some (StampBack (high - stamp_at l h.seconds h.fraction))) None
 given_reason l late high h back g e =
     let k : PacketHeader = given_header l h in
     let clear : is_file_header k ≡ false = given_no_header l h g.within g.no_file_header in
@@ -140,7 +140,7 @@ given_reason l late high h back g e =
     let second : nat_le 1000000000 k.fraction ≡ false = lt-leb 1000000000 k.fraction (omega arith) in
     let stamp : stamp_at capture_layout k.seconds k.fraction ≡ stamp_at l h.seconds h.fraction = omega arith in
     let time : nat_lt (stamp_at capture_layout k.seconds k.fraction + late) high ≡ back = ap (λ (s : ℕ). nat_lt (s + late) high) stamp ∙ e in
-    rw (clear, long, second, time) refl
+    rw (clear, long, second, time) (ap (λ (s : ℕ). cond back (Some (StampBack (high - s))) None) stamp)
 
 -- at a header that stands whole
 judged : (l : Layout) (told : Told) (most late n high : ℕ) (bytes : List ℕ) (next : Given) (e : Ending) → IsBytes bytes → n ≤ most → nat_eq n most ≡ false → 16 ≤ length bytes
@@ -180,8 +180,9 @@ judged l told most late n high bytes next e fits within differs long found =
               let given : given_at l told bytes next ≡ followed (header_text k) body = ap (λ (x : List ℕ). given_at l told x next) (sym whole) ∙ given_start l told head more next size fine in
               elim (which (nat_lt (stamp_at l h.seconds h.fraction + late) high)) [
                 | inl d ↦
+                    let back : BadReason = StampBack (high - stamp_at l h.seconds h.fraction) in
                     let read = ap (reason_at capture_layout late high) (fields_read l h g) ∙ given_reason l late high h true g d in
-                    ap ends given ∙ (bad_at_head (stands most late n high) body.told (header_text k) body.bytes StampBack (length-text k) few read ∙ ap Some (same_ending (Bad n StampBack) e (rw (a, b, c, d) at found)))
+                    ap ends given ∙ (bad_at_head (stands most late n high) body.told (header_text k) body.bytes back (length-text k) few read ∙ ap Some (same_ending (Bad n back) e (rw (a, b, c, d) at found)))
                 | inr d ↦
                     let read = ap (reason_at capture_layout late high) (fields_read l h g) ∙ given_reason l late high h false g d in
                     elim (which (nat_lt (length bytes - 16) h.captured_len)) [

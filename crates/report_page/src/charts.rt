@@ -1,12 +1,12 @@
 //! Charts: drawings with no text, in whole numbers but for ticks.
 
-use crate::gaps::{between, silence_of};
 use crate::numbers::{quotient, share};
 use crate::view::View;
 use crate::writer::Page;
 use crate::writer::Part::{self, Hundredths, Number, Tenths, Text, Tick};
 use afdx_frame::Network;
-use ledger_report::{BINS, Interval, LaneReport, LinkReport, Series};
+use findings::{Finding, Kind as Found, Side};
+use ledger_report::{BINS, LaneReport, LinkReport, Series};
 
 /// How the bins of a column become one number.
 #[derive(Clone, Copy, PartialEq, Eq)]
@@ -161,11 +161,16 @@ const BAND: &str =
 /// Where a network's half of a drawing begins, and how high it is.
 type Half = (u64, u64);
 
-/// Appends a band of time.
-fn push_band(page: &mut Page, view: &View<'_>, half: Half, class: &str, time: Interval) {
-    let before = time.from.saturating_sub(view.report.start);
+/// Appends a band from one time to another, after the first line.
+fn push_band(page: &mut Page, view: &View<'_>, half: Half, class: &str, (from, to): (u64, u64)) {
     fill!(page; BAND; class = Text(class), y = Number(half.0), height = Number(half.1),
-        x = across(view, before), width = across(view, time.time()));
+        x = across(view, from), width = across(view, to.saturating_sub(from)));
+}
+
+/// Is a finding a silence of this network?
+pub fn is_silence(finding: &Finding, network: Network) -> bool {
+    let is_on = finding.side == Side::Both || finding.side == Side::of(network);
+    finding.kind == Found::Silence && is_on && !finding.is_rest
 }
 
 /// The most silences that a drawing shows on a network.
@@ -174,21 +179,34 @@ const SHOWN_SILENCES: usize = 32;
 /// Appends silences, and the times that weren't recorded, on a network's half.
 fn push_blind_half(page: &mut Page, view: &View<'_>, network: Network, half: Half) {
     let (report, side) = (view.report, view.report.networks.of(network));
-    for silence in side.silences.iter().take(SHOWN_SILENCES) {
-        push_band(page, view, half, "si", silence_of(silence));
+    let silences = report
+        .findings
+        .all
+        .iter()
+        .filter(|one| is_silence(one, network));
+    for silence in silences.take(SHOWN_SILENCES) {
+        let (from, to) = (silence.span.from.0, silence.span.to.0);
+        push_band(
+            page,
+            view,
+            half,
+            "si",
+            (from.unsigned_abs(), to.unsigned_abs()),
+        );
     }
-    let end = report.start.saturating_add(view.span);
+    let end = view.span;
     let none = side.frames == 0;
     let (first, last) = if none {
         (end, end)
     } else {
-        (side.first, side.last)
+        let since = |stamp: u64| stamp.saturating_sub(report.start);
+        (since(side.first), since(side.last))
     };
-    if none || first.saturating_sub(report.start) > report.width {
-        push_band(page, view, half, "nr", between(report.start, first));
+    if none || first > report.width {
+        push_band(page, view, half, "nr", (0, first));
     }
-    if report.end.saturating_sub(last) > report.width {
-        push_band(page, view, half, "nr", between(last, end));
+    if report.end.saturating_sub(report.start).saturating_sub(last) > report.width {
+        push_band(page, view, half, "nr", (last, end));
     }
 }
 

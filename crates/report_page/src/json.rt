@@ -1,23 +1,23 @@
 //! The report as JSON.
 
 use self::Value::{Flag, Known, Number, Quoted, Stamp, Stamped};
-use crate::gaps::{gap_of, missing_in_silences, stop_of};
+use crate::cut_command::push_cut;
 use crate::page::end_word;
-use crate::ranks::{level_of, open_signs, signs_of};
+use crate::ranks::{level_at, signs_of, word_of};
+use crate::sentences::push_sentence;
 use crate::tables::{count_word, worse_word};
-use crate::view::{SIGNS, View};
+use crate::view::{SIGNS, Shown, View};
 use crate::writer::{Page, Part};
 use afdx_frame::Network::{self, A, B};
 use afdx_frame::VlId;
+use findings::{Finding, Findings, Sign, Signs};
 use ledger_report::{
-    Anomalies, Anomaly, AnomalyTally, COUNTS, FramePlace, Interval, LinkComparison, LinkCounts,
-    LinkNumbers, LinkReport, NetworkReport, OutsideLink, Report, Series, Totals, WORSE,
-    is_new_outside,
+    Anomalies, Anomaly, AnomalyTally, COUNTS, FramePlace, LinkComparison, LinkCounts, LinkNumbers,
+    LinkReport, OutsideLink, Report, Series, Totals, WORSE, is_new_outside,
 };
-use run_manifest::Manifest;
 use serde_json::Error;
 use std::alloc::Global;
-use vl_config::{Config, Link};
+use vl_config::Link;
 
 /// What a network counts of each frame beside what a lane does: preamble, start of frame and least gap.
 const BESIDE: u64 = 20;
@@ -39,6 +39,7 @@ enum Value<'a> {
 /// A JSON text as it is written.
 #[derive(Drop)]
 struct Json {
+    alloc: Global,
     page: Page,
     /// Does a comma stand before the next value?
     follows: bool,
@@ -121,8 +122,72 @@ impl Json {
         each!(self; name, "[", "]"; number in numbers => self.value("", Number(*number)));
     }
 
-    fn interval(&mut self, name: &str, interval: Option<Interval>) {
-        object_if!(self; name; interval => held; from = Stamp(held.from), to = Stamp(held.to));
+    /// A text of whatever characters.
+    fn text(&mut self, name: &str, text: &Page) {
+        self.name(name);
+        self.page.quoted(text.written());
+    }
+
+    /// How many signs there are, by word and network.
+    fn tally(&mut self, name: &str, signs: &Signs) {
+        self.open(name, "{");
+        for one in signs.all().iter().filter(|one| one.count > 0) {
+            self.sign_name(one.sign);
+            self.page.path(&[("", one.count)]);
+        }
+        self.close("}");
+    }
+
+    /// The name of a member that is a sign.
+    fn sign_name(&mut self, sign: Sign) {
+        self.page.text(if self.follows { "," } else { "" });
+        self.follows = true;
+        let letter = sign.network.map_or("", |network| network.letter());
+        fill!(self.page; "\"$word$$?letter$.$letter$$/$\":"; word = Part::Text(sign.word.text()),
+            letter = Part::Text(letter));
+    }
+
+    /// The signs that aren't in exactly one finding: there are none.
+    fn unaccounted(&mut self, findings: &Findings) {
+        self.open("unaccounted", "{");
+        for one in findings.totals.all() {
+            let mut found = 0u64;
+            for finding in &findings.all {
+                found = found.saturating_add(finding.signs.count(one.sign));
+            }
+            if found != one.count {
+                self.sign_name(one.sign);
+                self.page.path(&[("[", one.count), (",", found)]);
+                self.page.text("]");
+            }
+        }
+        self.close("}");
+    }
+
+    fn finding(&mut self, view: &View<'_>, finding: &Finding) {
+        self.open("", "{");
+        members!(self; kind = Quoted(finding.kind.word()), level = Quoted(word_of(finding.level)),
+            networks = Quoted(finding.side.letters()));
+        each!(self; "links", "[", "]"; id in finding.links.iter() =>
+            self.value("", Number(u64::from(id.0))));
+        members!(self; from = Stamp(view.stamp(finding.span.from.0)),
+            to = Stamp(view.stamp(finding.span.to.0)), count = Number(finding.count));
+        self.tally("signs", &finding.signs);
+        let mut text = Page::plain(self.alloc);
+        push_sentence(&mut text, view, finding, ("", ""), false);
+        self.text("text", &text);
+        let mut cut = Page::plain(self.alloc);
+        push_cut(&mut cut, view, finding);
+        self.text("cut", &cut);
+        self.close("}");
+    }
+
+    /// What is found, how many signs there are in all, and how bad each link is.
+    fn findings(&mut self, view: &View<'_>) {
+        let found = &view.report.findings;
+        each!(self; "findings", "[", "]"; finding in &found.all => self.finding(view, finding));
+        self.tally("totals", &found.totals);
+        self.unaccounted(found);
     }
 
     fn place(&mut self, name: &str, place: Option<FramePlace>) {
@@ -164,48 +229,29 @@ impl Json {
         each!(self; "signs", "[", "]"; &sign in &SIGNS => self.sign(sign, signs.of(sign)));
     }
 
-    fn lane(&mut self, report: &Report, link: &LinkReport, network: Network, sizes: bool) {
+    fn lane(&mut self, link: &LinkReport, network: Network, sizes: bool) {
         let lane = link.lanes.of(network);
         let some = lane.intervals > 0;
         self.open(member_of(network), "{");
         members!(self; frames = Number(lane.frames), bytes = Known(sizes.then_some(lane.bytes)),
             least = Known(some.then_some(lane.least)), greatest = Known(some.then_some(lane.greatest)));
-        members!(self; lane: interval_sum, intervals, excess_lead, lost_after_silence);
-        members!(self; missing_in_silences = Known(missing_in_silences(report, link, network)));
-        members!(self; lane: out_after_silence, uncovered);
-        object_if!(self; "absence"; link.absences.of(network) => held; lines = Number(held.lines),
-            from = Stamp(held.from), to = Stamp(held.to));
+        members!(self; lane: interval_sum, intervals, excess_lead);
         self.signs(&lane.signs);
         self.close("}");
     }
 
-    fn link(&mut self, report: &Report, link: &LinkReport, configured: &Link, sizes: bool) {
-        let (fates, gaps) = (&link.fates, &link.gaps);
+    fn link(&mut self, view: &View<'_>, index: usize) {
+        let Some((link, configured)) = view.link(index) else {
+            return;
+        };
         self.open("", "{");
         members!(self; id = Number(u64::from(link.id.0)), name = Quoted(&configured.name),
-            level = Quoted(level_of(report, link).word()), signs = Number(signs_of(link)),
-            open = Number(open_signs(report, link)));
-        self.link_counts(report.counts.link(link.id));
-        members!(self; deliveries = Number(link.deliveries));
-        object!(self; "fates"; fates: paired, late, first, met, uncovered, alone);
+            level = Quoted(word_of(level_at(view.report, index))), signs = Number(signs_of(link)));
+        self.link_counts(view.report.counts.link(link.id));
         members!(self; link: copies, skew_sum, skew_greatest, skew_median, late_greatest, lost_both);
-        self.open("gaps", "{");
-        members!(self; last = Stamped(gaps.last), count = Number(gaps.count));
-        self.interval("longest", gaps.longest);
-        members!(self; gaps: usual, fourth);
+        self.lane(link, A, view.sizes);
+        self.lane(link, B, view.sizes);
         self.close("}");
-        self.interval("gap", gap_of(link));
-        self.interval("stop", stop_of(report, link));
-        self.lane(report, link, A, sizes);
-        self.lane(report, link, B, sizes);
-        self.close("}");
-    }
-
-    fn silences(&mut self, side: &NetworkReport) {
-        each!(self; "silences", "[", "]"; silence in side.silences.iter() =>
-            object!(self; ""; after = Number(silence.after), from = Stamp(silence.from),
-                to = Stamp(silence.to), lines = Number(silence.lines)));
-        members!(self; side: more_silences, usual);
     }
 
     /// A row of a timeline, unless nothing came in it: a number for each bin.
@@ -227,7 +273,6 @@ impl Json {
         members!(self; frames = Number(side.frames), first = Stamped(some.then_some(side.first)),
             last = Stamped(some.then_some(side.last)), bytes = Known(sizes.then_some(bytes)));
         self.counts(counts);
-        self.silences(side);
         object_if!(self; "ending"; report.endings.of(network) => held; end = Quoted(end_word(held.end)),
             frames = Number(held.frames), reason = Quoted(&held.reason));
         self.signs(&side.signs);
@@ -267,17 +312,15 @@ impl Json {
     /// What stands before the networks.
     fn head(&mut self, view: &View<'_>) {
         let report = view.report;
-        members!(self; version = Number(1), whole = Flag(report.whole));
+        members!(self; version = Number(2), whole = Flag(report.whole));
         object_if!(self; "stopped"; report.stop => stop; lines = Number(stop.lines),
             within_line = Flag(stop.within_line));
-        // The rate in parts in 10^9.
-        object_if!(self; "drift"; view.drift => drift; faster = Quoted(drift.faster.letter()),
-            ppb = Number(drift.parts / 1000), links = Number(drift.links), of = Number(drift.of));
         members!(self; sizes = Flag(view.sizes));
         self.flight(report);
         members!(self; report: width);
         self.counts(report.counts.all());
         self.list("filters", view.filters());
+        self.findings(view);
     }
 
     fn report(&mut self, view: &View<'_>, manifest: &str) {
@@ -286,9 +329,7 @@ impl Json {
         self.head(view);
         self.network(report, A, view.sizes);
         self.network(report, B, view.sizes);
-        let links = report.links.iter().zip(view.config.links().iter());
-        each!(self; "links", "[", "]"; (link, configured) in links =>
-            self.link(report, link, configured, view.sizes));
+        each!(self; "links", "[", "]"; index in 0..report.links.len() => self.link(view, index));
         self.outside(report);
         self.name("manifest");
         self.page.text(manifest);
@@ -346,26 +387,18 @@ fn member_of(network: Network) -> &'static str {
     }
 }
 
-/// The report's numbers as one JSON object, with the manifest of the ledger's run, if it is known, and beside
-/// those of a baseline, the report of an earlier flight against the same table, if there is one. Timestamps
-/// are decimal strings.
+/// The report's findings and numbers as one JSON object. Timestamps are decimal strings.
 ///
 /// # Errors
 ///
 /// The system is out of memory.
-pub fn json_of(
-    alloc: Global,
-    report: &Report,
-    config: &Config,
-    sizes: bool,
-    manifest: Option<&Manifest>,
-    baseline: Option<&Report>,
-) -> Result<String, Error> {
-    let view = View::new(alloc, report, config, sizes, baseline)?;
+pub fn json_of(alloc: Global, shown: &Shown<'_>) -> Result<String, Error> {
+    let view = View::new(alloc, shown)?;
     let mut json = Json {
+        alloc,
         page: Page::new(alloc),
         follows: false,
     };
-    json.report(&view, &serde_json::to_string(alloc, &manifest)?);
+    json.report(&view, &serde_json::to_string(alloc, &shown.manifest)?);
     Ok(json.page.into_text()?)
 }

@@ -1,7 +1,7 @@
 //! The report as a page, as lines for a terminal, and as JSON.
 //!
 //! - [`page_of`]: one HTML page with no script and no link out, which prints on A4.
-//! - [`summary_of`]: at most 28 lines: what to look at first.
+//! - [`summary_of`]: what to look at first, in lines of at most 80 columns.
 //! - [`has_sizes`]: whether the ledger tells the sizes of frames.
 //! - [`json_of`]: the same numbers as one JSON object; docs/REPORT.md has its members.
 //!
@@ -29,16 +29,15 @@ macro_rules! fill {
     };
 }
 
-mod causes;
 mod charts;
-mod drift;
-mod findings;
-mod gaps;
+mod cut_command;
+mod finding_list;
 mod json;
 mod numbers;
 mod page;
 mod ranks;
 mod rows;
+mod sentences;
 mod sizes;
 mod summary;
 mod tables;
@@ -50,3 +49,4 @@ pub use json::json_of;
 pub use page::page_of;
 pub use sizes::has_sizes;
 pub use summary::summary_of;
+pub use view::Shown;

@@ -1,21 +1,21 @@
 //! The page.
 
-use crate::findings::push_findings;
-use crate::gaps::{is_lower_bound, missing_in_silences, silence_of};
+use crate::charts::is_silence;
+use crate::finding_list::push_findings;
 use crate::numbers::quotient;
 use crate::rows::{push_strips, push_timeline};
 use crate::tables::{push_comparison, push_links};
 use crate::text;
-use crate::view::{DISCARDS, SIGNS, View, greatest_skew};
+use crate::view::{DISCARDS, SIGNS, Shown, View, greatest_skew};
 use crate::writer::Part::{self, Both, Duration, Given, Grouped, Number, Percent, Text, Utc};
 use crate::writer::{Named, Page, Pair, flag};
 use afdx_frame::Network::{self, A, B};
-use ledger_report::Anomaly::{Alone, Cut, Late, Lost};
-use ledger_report::{LinkReport, Report, TapEnd, TapEnding};
+use ledger_report::Anomaly::{Alone, Late, Lost};
+use ledger_report::{LinkReport, TapEnd, TapEnding};
 use ledger_text::LedgerStop;
 use run_manifest::{FileRecord, Manifest, RecordingRecord};
 use std::alloc::{AllocError, Global};
-use vl_config::{Config, Link};
+use vl_config::Link;
 
 /// A text that may be absent.
 fn given_if(text: &Option<String>) -> Part<'_> {
@@ -103,31 +103,13 @@ fn push_reasons(page: &mut Page, view: &View<'_>) {
     page.text(if shown { "" } else { "none" });
 }
 
-/// What is missing in the silences of a network: about so many where a link's rate is known, and at least so
-/// many where it isn't.
-fn missing_of(view: &View<'_>, network: Network) -> (u64, u64) {
-    let (mut about, mut least) = (0u64, 0u64);
-    for link in view.report.links.iter() {
-        match missing_in_silences(view.report, link, network) {
-            Some(missing) => about = about.saturating_add(missing),
-            None => least = least.saturating_add(link.lanes.of(network).lost_after_silence),
-        }
-    }
-    (about, least)
-}
-
-/// Is there a lane on this network whose losses are a lower bound?
-fn has_lower_bound(view: &View<'_>, network: Network) -> bool {
-    view.report.links.iter().any(|link| {
-        link.lanes.of(network).signs.of(Lost).count > 0 && is_lower_bound(link, network)
-    })
-}
-
 /// How long a network is silent.
 fn silent_on(view: &View<'_>, network: Network) -> Part<'static> {
     let mut silent = 0u64;
-    for silence in view.report.networks.of(network).silences.iter() {
-        silent = silent.saturating_add(silence_of(silence).time());
+    for finding in &view.report.findings.all {
+        if is_silence(finding, network) {
+            silent = silent.saturating_add(finding.span.length().0.unsigned_abs());
+        }
     }
     Duration(silent)
 }
@@ -181,10 +163,10 @@ pub fn push_stop(page: &mut Page, stop: LedgerStop) {
 }
 
 /// Appends what a hole `@name@` of the skeleton stands for.
-fn push_section(page: &mut Page, view: &View<'_>, manifest: Option<&Manifest>, name: &str) {
+fn push_section(page: &mut Page, view: &View<'_>, name: &str) {
     match name {
         "filters" => push_filters(page, view),
-        "run" => push_run(page, manifest),
+        "run" => push_run(page, view.manifest),
         "reasons" => push_reasons(page, view),
         "skew" => push_skew(page, view),
         "ending a" => push_ending(page, &view.report.endings.a),
@@ -211,13 +193,11 @@ fn tie_of(manifest: Option<&Manifest>) -> &'static str {
 }
 
 /// The parts of the skeleton.
-fn parts_of(view: &View<'_>, manifest: Option<&Manifest>) -> [Named<'static>; 30] {
+fn parts_of(view: &View<'_>) -> [Named<'static>; 26] {
     let (report, networks, all) = (view.report, &view.report.networks, view.report.counts.all());
-    let (lost, alone, cut) = (view.total(Lost), view.total(Alone), view.total(Cut));
-    let (a, b) = (missing_of(view, A), missing_of(view, B));
-    let (about, least) = (Pair(a.0, b.0), Pair(a.1, b.1));
+    let (lost, alone) = (view.total(Lost), view.total(Alone));
+    let estimated = estimated_of(view);
     let ends = !is_clean(&report.endings.a) || !is_clean(&report.endings.b);
-    let bound = has_lower_bound(view, A) || has_lower_bound(view, B);
     let (discards, none) = (discards_of(view), all.frames == 0);
     let [links, trouble, notice, silent, clean] = view.levels();
     parts! { style = Text(text::STYLE), start = if none { Text("no frames") } else { Utc(report.start) },
@@ -225,34 +205,36 @@ fn parts_of(view: &View<'_>, manifest: Option<&Manifest>) -> [Named<'static>; 30
         links, trouble, notice, silent, clean, frames = Grouped(all.frames),
         pair = Both(Pair(networks.a.frames, networks.b.frames)), delivered = Grouped(all.delivered),
         copies = Grouped(all.copy), discards = Grouped(discards),
-        share = Percent(discards, all.frames.max(1)), bound = flag(bound), lost = Both(lost),
-        missing = flag(lost.sum() > 0 || about.sum() > 0 || least.sum() > 0), about = Both(about),
-        least = Both(least), lost_cut = Both(lost.min(cut)), alone = Both(alone),
-        alone_cut = Both(alone.min(Pair(cut.1, cut.0))), late = Grouped(view.total(Late).sum()),
+        share = Percent(discards, all.frames.max(1)), lost = Both(lost), estimated = Grouped(estimated),
+        missing = flag(lost.sum() > 0), alone = Both(alone), late = Grouped(view.total(Late).sum()),
         ends = flag(ends), silent_a = silent_on(view, A), silent_b = silent_on(view, B),
-        column = Duration(report.width), tie = Text(tie_of(manifest)),
+        column = Duration(report.width), tie = Text(tie_of(view.manifest)),
         sizes = Text(if view.sizes { text::SIZES } else { text::NO_SIZES }) }
 }
 
-/// The page of a report against its table. `sizes` says whether a filter of the table takes every frame
-/// whole, so that the bytes kept are those of the frames. The manifest is that of the ledger's run, if it is
-/// known. The baseline is the report of an earlier flight against the same table, if there is one.
-pub fn page_of(
-    alloc: Global,
-    report: &Report,
-    config: &Config,
-    sizes: bool,
-    manifest: Option<&Manifest>,
-    baseline: Option<&Report>,
-) -> Result<String, AllocError> {
-    let view = View::new(alloc, report, config, sizes, baseline)?;
+/// How many of the missing numbers are estimates.
+fn estimated_of(view: &View<'_>) -> u64 {
+    let mut estimated = 0u64;
+    for finding in &view.report.findings.all {
+        estimated = estimated.saturating_add(finding.facts.estimated.0.unsigned_abs());
+    }
+    estimated
+}
+
+/// The page of a report.
+///
+/// # Errors
+///
+/// The system is out of memory.
+pub fn page_of(alloc: Global, shown: &Shown<'_>) -> Result<String, AllocError> {
+    let view = View::new(alloc, shown)?;
     let mut page = Page::new(alloc);
-    let parts = parts_of(&view, manifest);
+    let parts = parts_of(&view);
     for (at, piece) in text::PAGE.split('@').enumerate() {
         if at % 2 == 0 {
             page.fill(piece, &parts);
         } else {
-            push_section(&mut page, &view, manifest, piece);
+            push_section(&mut page, &view, piece);
         }
     }
     page.into_text()

@@ -3,13 +3,14 @@
 use crate::charts::Kind::{Greatest, Sum};
 use crate::charts::{Classes, Drawing, push_axis, push_intervals, push_row};
 use crate::numbers::{quotient, share};
-use crate::ranks::Level;
+use crate::ranks::mark_of;
 use crate::view::{
     DISCARDS, LOSSES, SIGNS, STRIPS, View, counts_of, first_of, first_parts, greatest_skew,
 };
 use crate::writer::Part::{self, Both, Duration, Grouped, Letter, Millionths, Number, Text};
 use crate::writer::{Page, Pair, flag};
 use afdx_frame::Network::{self, A, B};
+use findings::Level;
 use ledger_report::Anomaly::{self, Alone, Excess, Late, Lost, Out, Repeat, Reset, TooLong};
 use ledger_report::LinkReport;
 use vl_config::Link;
@@ -224,29 +225,15 @@ fn push_link_rows(page: &mut Page, view: &View<'_>, link: &LinkReport, per: usiz
     }
 }
 
-/// Absences from a network, and what wasn't counted there.
+/// What a link has beside its rows.
 const FACTS: &str = "\
-$?absent$ &#183; longest absence from $n$: $absent$ frames of $other$ in a row, $from$&#8211;$to$ s$/$\
-$?uncovered$ &#183; not counted: $uncovered$ frames of $n$ while $other$ was silent or not recorded$/$\
-$?out$ &#183; not counted: $out$ out on $n$ right after its silence$/$\
-$?lead$ &#183; an excess on $n$ came $lead$ sooner than BAG less jitter$/$";
+<p class=\"facts\">lost on both networks: $lost$\
+$?a$ &#183; an excess on A came $a$ sooner than BAG less jitter$/$\
+$?b$ &#183; an excess on B came $b$ sooner than BAG less jitter$/$</p>";
 
-fn push_facts(page: &mut Page, view: &View<'_>, link: &LinkReport) {
-    fill!(page; "<p class=\"facts\">lost on both networks: $lost$"; lost = Grouped(link.lost_both));
-    push_facts_on(page, view, link, A);
-    push_facts_on(page, view, link, B);
-    page.text("</p>");
-}
-
-fn push_facts_on(page: &mut Page, view: &View<'_>, link: &LinkReport, network: Network) {
-    let lane = link.lanes.of(network);
-    let (absent, from, to) = match link.absences.of(network) {
-        Some(absence) => (absence.lines, absence.from, absence.to),
-        None => (0, 0, 0),
-    };
-    fill!(page; FACTS; n = Letter(network), other = Letter(network.other()), absent = Grouped(absent),
-        from = view.since(from), to = view.since(to), uncovered = Grouped(lane.uncovered),
-        out = Number(lane.out_after_silence), lead = Duration(lane.excess_lead));
+fn push_facts(page: &mut Page, link: &LinkReport) {
+    fill!(page; FACTS; lost = Grouped(link.lost_both), a = Duration(link.lanes.a.excess_lead),
+        b = Duration(link.lanes.b.excess_lead));
 }
 
 const STRIP: &str = "\
@@ -259,14 +246,14 @@ $?integrity$ &#183; integrity off$/$$?redundancy$ &#183; redundancy off$/$ \
 /// Appends the strip of a link.
 fn push_strip(page: &mut Page, view: &View<'_>, link: &LinkReport, configured: &Link) {
     let per = view.column(link);
-    fill!(page; STRIP; id = Number(u64::from(link.id.0)), mark = Text(Level::Trouble.mark()),
+    fill!(page; STRIP; id = Number(u64::from(link.id.0)), mark = Text(mark_of(Level::Trouble)),
         name = Text(&configured.name), bag = Number(link.bag / 1_000_000), jitter = Duration(link.jitter),
         smax = Number(u64::from(link.smax)), skew = Duration(link.skew_max),
         integrity = flag(!link.integrity), redundancy = flag(!link.redundancy),
         column = Duration(view.long(per)));
     push_link_rows(page, view, link, per);
     push_axis(page, view);
-    push_facts(page, view, link);
+    push_facts(page, link);
     page.text("</section>");
 }
 

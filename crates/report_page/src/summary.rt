@@ -1,24 +1,24 @@
 //! The first part of the report as lines for a terminal.
 
-use crate::causes::{causes_of, push_cause};
-use crate::gaps::{end_of, gap_of, is_told, silent_on_both, stop_of};
 use crate::page::push_stop;
-use crate::ranks::{Level, Rank, frames_of, open_signs};
+use crate::ranks::word_of;
+use crate::sentences::push_sentence;
 use crate::tables::{count_word, worse_word};
-use crate::view::{TROUBLES, View, counts_of, links_word};
+use crate::view::{Shown, View, links_word};
 use crate::writer::Page;
-use crate::writer::Part::{Letter, Number, Seconds, Text, Thousandths};
-use afdx_frame::Network;
-use ledger_report::{Anomaly, LinkComparison, LinkReport, Report, WORSE, Worse};
+use crate::writer::Part::{Number, Text, Thousandths};
+use findings::{Finding, Level};
+use ledger_report::{LinkComparison, WORSE, Worse};
 use std::alloc::{AllocError, Global};
-use vl_config::Config;
 
-/// How many links have a line.
-const LINKS: usize = 13;
+/// How many findings are told.
+const FINDINGS: usize = 20;
 /// How many links that got worse since a baseline have a line.
 const WORSE_LINKS: usize = 14;
-/// How many silences of a network have one.
-const SILENCES: usize = 2;
+/// How many columns a line has, and how many a level's word takes.
+const COLUMNS: usize = 80;
+
+const LEVEL_COLUMNS: usize = 9;
 
 fn push_head(page: &mut Page, view: &View<'_>) {
     let all = view.report.counts.all();
@@ -34,51 +34,59 @@ fn push_head(page: &mut Page, view: &View<'_>) {
     }
 }
 
-fn push_silences(page: &mut Page, view: &View<'_>, network: Network) {
-    let side = view.report.networks.of(network);
-    let told = side.silences.iter().filter(|one| is_told(side, one));
-    for silence in told.take(SILENCES) {
-        let both = silent_on_both(view.report, network, silence).is_some();
-        let template = match (both, network) {
-            (true, Network::B) => "",
-            (true, Network::A) => "networks A and B silent from $from$ s to $to$ s\n",
-            (false, _) => "network $n$ silent from $from$ s to $to$ s\n",
-        };
-        fill!(page; template; n = Letter(network), from = view.since(silence.from),
-            to = view.since(silence.to));
-    }
-    if let Some(end) = end_of(view.report, network) {
-        fill!(page; "network $n$ has no frame after $from$ s\n"; n = Letter(network),
-            from = view.since(end.from));
-    }
-}
-
-fn push_link(page: &mut Page, view: &View<'_>, rank: &Rank) {
-    let Some((report, link)) = view.link(rank.index) else {
-        return;
-    };
-    page.columns(rank.level.word(), u64::from(link.id.0));
-    fill!(page; " $name$ frames $frames$"; name = Text(&link.name), frames = Number(frames_of(report)));
-    for sign in TROUBLES.iter().chain(&[Anomaly::Reset]) {
-        let counts = counts_of(report, *sign);
-        if counts.sum() > 0 {
-            fill!(page; " $word$ $a$/$b$"; word = Text(sign.word()), a = Number(counts.0),
-                b = Number(counts.1));
+/// Appends a text in lines, those after the first indented as the level's word is wide.
+fn push_wrapped(page: &mut Page, text: &str) {
+    let mut column = LEVEL_COLUMNS;
+    for (at, word) in text.split(' ').enumerate() {
+        let width = word.chars().count().saturating_add(1);
+        if at > 0 && column.saturating_add(width) > COLUMNS {
+            page.text("\n         ");
+            column = LEVEL_COLUMNS;
+        } else if at > 0 {
+            page.text(" ");
         }
+        page.text(word);
+        column = column.saturating_add(width);
     }
-    push_losses(page, view, report);
+    page.text("\n");
 }
 
-/// Appends the times of a link without a delivery, and what it lost on both networks.
-fn push_losses(page: &mut Page, view: &View<'_>, report: &LinkReport) {
-    for gap in [gap_of(report), stop_of(view.report, report)]
-        .iter()
-        .flatten()
-    {
-        fill!(page; " gap $time$ s from $from$ s"; time = Seconds(gap.time()), from = view.since(gap.from));
+/// Appends a finding.
+fn push_finding(page: &mut Page, alloc: Global, view: &View<'_>, finding: &Finding) {
+    let mut text = Page::plain(alloc);
+    push_sentence(&mut text, view, finding, ("", ""), false);
+    page.level(word_of(finding.level));
+    push_wrapped(page, text.written());
+}
+
+/// How many findings beyond those that are told have a level.
+fn beyond(view: &View<'_>, level: Level) -> u64 {
+    let findings = view.report.findings.all.iter().skip(FINDINGS);
+    findings.filter(|finding| finding.level == level).count() as u64
+}
+
+const MORE: &str = "\
+and $more$ more:$?trouble$ $trouble$ trouble$/$$?notice$ $notice$ notice$/$$?silent$ $silent$ silent$/$\
+$?info$ $info$ info$/$\n";
+
+const NOTHING: &str = "\
+Nothing found: each number, interval, skew and verdict was looked at. A ledger\n\
+doesn't tell what frames hold, nor their source addresses and tags.\n";
+
+/// Appends the findings, worst first.
+fn push_findings(page: &mut Page, alloc: Global, view: &View<'_>) {
+    let findings = view.report.findings.all.as_slice();
+    for finding in findings.iter().take(FINDINGS) {
+        push_finding(page, alloc, view, finding);
     }
-    fill!(page; "$?lost$ lost_both $lost$$/$$?open$ open $open$$/$\n"; lost = Number(report.lost_both),
-        open = Number(open_signs(view.report, report)));
+    let more = findings.len().saturating_sub(FINDINGS) as u64;
+    if more > 0 {
+        fill!(page; MORE; more = Number(more), trouble = Number(beyond(view, Level::Trouble)),
+            notice = Number(beyond(view, Level::Notice)), silent = Number(beyond(view, Level::Silent)),
+            info = Number(beyond(view, Level::Info)));
+    }
+    let none = findings.iter().all(|finding| finding.level == Level::Info);
+    page.text(if none { NOTHING } else { "" });
 }
 
 /// Appends the line of a link that got worse: frames by second today and in the baseline, and in which ways.
@@ -117,32 +125,19 @@ fn push_comparison(page: &mut Page, view: &View<'_>) {
         links = links_word(more));
 }
 
-/// The first part of a report as text: at most 28 lines. Where there is a baseline, the report of an earlier
-/// flight against the same table, a line for each of the first links that got worse stands after the head.
-pub fn summary_of(
-    alloc: Global,
-    report: &Report,
-    config: &Config,
-    baseline: Option<&Report>,
-) -> Result<String, AllocError> {
-    let view = View::new(alloc, report, config, false, baseline)?;
-    let mut page = Page::new(alloc);
+/// The first part of a report as text: its findings in lines of at most 80 columns. Where there is a
+/// baseline, a line for each of the first links that got worse stands before them.
+///
+/// # Errors
+///
+/// The system is out of memory.
+pub fn summary_of(alloc: Global, shown: &Shown<'_>) -> Result<String, AllocError> {
+    let view = View::new(alloc, shown)?;
+    let mut page = Page::plain(alloc);
     push_head(&mut page, &view);
-    if baseline.is_some() {
+    if shown.baseline.is_some() {
         push_comparison(&mut page, &view);
     }
-    for cause in causes_of(&view).iter().flatten() {
-        push_cause(&mut page, *cause, "", "");
-        page.text("\n");
-    }
-    push_silences(&mut page, &view, Network::A);
-    push_silences(&mut page, &view, Network::B);
-    let bad = view.ranks.iter().filter(|rank| rank.level != Level::Clean);
-    let bad = bad.count();
-    for rank in view.ranks.iter().take(bad.min(LINKS)) {
-        push_link(&mut page, &view, rank);
-    }
-    let more = bad.saturating_sub(LINKS) as u64;
-    fill!(page; "$?more$and $more$ more $links$\n$/$"; more = Number(more), links = links_word(more));
+    push_findings(&mut page, alloc, &view);
     page.into_text()
 }

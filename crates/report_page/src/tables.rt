@@ -3,7 +3,7 @@
 use crate::charts::Stair::{Above, Below};
 use crate::charts::{Columns, Kind, push_stair};
 use crate::numbers::share;
-use crate::ranks::{LEVELS, Level, Rank, frames_of, level_of};
+use crate::ranks::{LEVELS, Rank, frames_of, level_at, mark_of, word_of};
 use crate::view::{ROWS, TROUBLES, View, counts_of, greatest_skew, has_strip};
 use crate::writer::Part::{
     self, Both, Cell, Duration, Grouped, Millionths, Milliseconds, Number, Tenths, Text,
@@ -11,6 +11,7 @@ use crate::writer::Part::{
 };
 use crate::writer::{Page, Pair, flag};
 use afdx_frame::Network;
+use findings::Level;
 use ledger_report::Anomaly::{self, Alone, Early, Excess, Late, Lost, Out, TooLong};
 use ledger_report::{COUNTS, Count, LinkNumbers, LinkReport, WORSE, Worse};
 
@@ -104,7 +105,7 @@ fn push_link(page: &mut Page, view: &View<'_>, rank: &Rank, strip: bool) {
     let Some((link, configured)) = view.link(rank.index) else {
         return;
     };
-    fill!(page; LINK; level = Text(rank.level.word()), mark = Text(rank.level.mark()), strip = flag(strip),
+    fill!(page; LINK; level = Text(word_of(rank.level)), mark = Text(mark_of(rank.level)), strip = flag(strip),
         id = Number(u64::from(configured.id.0)), name = Text(&configured.name));
     if frames_of(link) > 0 {
         push_spark(page, view, link);
@@ -144,7 +145,7 @@ fn square_of(level: Level) -> (&'static str, u64, u64) {
         Level::Trouble => ("kt", 0, 9),
         Level::Notice => ("kn", 2, 6),
         Level::Silent => ("ks", 2, 6),
-        Level::Clean => ("kc", 3, 3),
+        Level::Info | Level::Clean => ("kc", 3, 3),
     }
 }
 
@@ -152,8 +153,8 @@ fn square_of(level: Level) -> (&'static str, u64, u64) {
 fn push_squares(page: &mut Page, view: &View<'_>, level: Level) {
     let (class, inset, side) = square_of(level);
     fill!(page; "<path class=\"$class$\" d=\""; class = Text(class));
-    for (index, link) in view.report.links.iter().enumerate() {
-        if level_of(view.report, link) == level {
+    for index in 0..view.report.links.len() {
+        if level_at(view.report, index) == level {
             let x = (index % MAP_COLUMNS).saturating_mul(10) as u64;
             let y = (index / MAP_COLUMNS).saturating_mul(10) as u64;
             page.path(&[
@@ -173,8 +174,8 @@ fn push_map(page: &mut Page, view: &View<'_>) {
     fill!(page; "<h3 class=\"mh\">All $links$ links by rising id, $columns$ to a row";
         links = Grouped(links as u64), columns = Number(MAP_COLUMNS as u64));
     for &level in &LEVELS {
-        fill!(page; ", <svg class=\"mk $mark$</svg> $count$ $word$"; mark = Text(level.mark()),
-            count = Grouped(view.count_of(level)), word = Text(level.word()));
+        fill!(page; ", <svg class=\"mk $mark$</svg> $count$ $word$"; mark = Text(mark_of(level)),
+            count = Grouped(view.count_of(level)), word = Text(word_of(level)));
     }
     let height = links.div_ceil(MAP_COLUMNS).saturating_mul(10) as u64;
     fill!(page; "</h3><svg class=\"rest\" viewBox=\"0 0 $width$ $height$\">";

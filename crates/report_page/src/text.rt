@@ -24,13 +24,10 @@ $notice$ notice &#183; $silent$ never seen &#183; $clean$ clean</p></div>\
 <p class=\"sub\">$copies$ copies taken off</p></div>\
 <div class=\"tile$?discards$ hot$/$\"><h3>Discarded</h3><p class=\"big\">$discards$\
 <small> = $share$ %</small></p><p class=\"sub\">@reasons@</p></div>\
-<div class=\"tile$?missing$ hot$/$\"><h3>Lost numbers</h3><p class=\"big\">\
-$?bound$<small>at least </small>$/$$lost$</p><p class=\"sub\">missing in the links' count, outside silences\
-$?about$ &#183; in them about $about$$/$$?least$ &#183; in them at least $least$$/$\
-$?lost_cut$ &#183; up to $lost_cut$ of them may be frames cut short$/$</p></div>\
-<div class=\"tile$?alone$ hot$/$\"><h3>Alone</h3><p class=\"big\">$alone$</p>\
-<p class=\"sub\">came on this network only, the other being alive\
-$?alone_cut$ &#183; up to $alone_cut$ of them may be frames cut short$/$</p></div>\
+<div class=\"tile$?missing$ hot$/$\"><h3>Lost numbers</h3><p class=\"big\">$lost$</p>\
+<p class=\"sub\">missing in the links' count$?estimated$ &#183; $estimated$ of them estimated$/$</p></div>\
+<div class=\"tile\"><h3>Alone</h3><p class=\"big\">$alone$</p>\
+<p class=\"sub\">came on this network, and is lost on the other</p></div>\
 <div class=\"tile$?late$ hot$/$\"><h3>Skew, greatest</h3><p class=\"big\">@skew@</p></div>\
 <div class=\"tile taps$?ends$ hot$/$\"><h3>Recordings</h3><p class=\"big\">\
 <span class=\"tap a\"><b>A</b> @ending a@</span><span class=\"tap b\"><b>B</b> @ending b@</span></p>\
@@ -39,7 +36,7 @@ $?alone_cut$ &#183; up to $alone_cut$ of them may be frames cut short$/$</p></di
 <section class=\"tl\"><h2>Timeline <small>a column is $column$; each row has its own scale</small></h2>\
 @timeline@</section>\
 <section><h2>Links, worst first <small>$trouble$ in trouble \
-(3 signs or more and one in each thousand frames, a gap, or never seen on one network), \
+(as the worst finding that names the link says), \
 $notice$ notice, $silent$ never seen, $clean$ clean</small></h2>@links@</section>\
 <section class=\"dets\"><h2>Links in trouble</h2>@strips@</section>@comparison@\
 <section class=\"leg\"><h2>Words and rules</h2><div class=\"lgs\">\
@@ -61,20 +58,22 @@ checking</i></dd>\
 <dt>copy</dt><dd>same number on the other network, at most SkewMax after <i>Part 7</i></dd>\
 </dl></div>\
 <div class=\"lg\"><h4>Read from the lines (this project's profile)</h4><dl>\
-<dt>lost</dt><dd>numbers missing between two frames of a link on one network</dd>\
-<dt>repeat</dt><dd>the same number twice running on one network</dd>\
-<dt>early</dt><dd>closer than BAG less jitter to the link's frame before</dd>\
-<dt>alone</dt><dd>delivered here, while the other network was alive and didn't bring it</dd>\
-<dt>late</dt><dd>second of a pair, beyond SkewMax, so delivered twice; within 127 BAG</dd>\
-<dt>network silent</dt><dd>64 or more lines of the other network between two, or a second and 8 times \
-what is usual</dd>\
-<dt>gap</dt><dd>not delivered for more than 8 times its BAG and its longest time between deliveries but \
-three</dd>\
-<dt>trouble</dt><dd>3 signs or more and one in each 1000 frames, a gap, or never seen on a network</dd>\
+<dt>lost</dt><dd>a number missing on one network, checked by the next one, the other network, and the \
+time</dd>\
+<dt>alone</dt><dd>lost on one network, and came on this one</dd>\
+<dt>repeat</dt><dd>a number that came before on its network</dd>\
+<dt>early</dt><dd>closer to the link's frame before than BAG less jitter, and SkewMax where the other \
+network \
+doesn't show it too</dd>\
+<dt>late</dt><dd>second of a pair, beyond SkewMax, so delivered twice</dd>\
+<dt>finding</dt><dd>a cause with the signs that it explains; each sign is in one</dd>\
+<dt>trouble, notice</dt><dd>as its kind says; scattered signs are trouble from 3 on, and from one in each \
+1000 frames</dd>\
 </dl></div>\
 </div></section>\
 <footer><p>$tie$@whole@$sizes$\
-Numbers count to 255 and go on with 1: in a gap of more than 127 numbers lost is a lower bound. \
+Numbers count to 255 and go on with 1: where more are missing in a row, rounds of 255 are estimated by \
+the time. \
 This page has no script and fetches nothing.</p></footer></body></html>\n";
 
 /// The program that ran, and its command line.

@@ -1,12 +1,13 @@
 //! What the page's parts share.
 
-use crate::drift::{Drift, bins_used, drift_of};
 use crate::numbers::quotient;
-use crate::ranks::{LEVELS, Level, Rank, ranks_of};
+use crate::ranks::{LEVELS, Rank, ranks_of};
 use crate::writer::{Pair, Part};
-use afdx_frame::Network;
+use afdx_frame::{Network, VlId};
+use findings::Level;
 use ledger_report::Anomaly::{self, Alone, Excess, Late, Lost, Out, TooLong};
-use ledger_report::{FramePlace, LinkComparison, LinkReport, Report, WORSE, comparison_at};
+use ledger_report::{BINS, FramePlace, LinkComparison, LinkReport, Report, WORSE, comparison_at};
+use run_manifest::{Manifest, RecordingRecord};
 use std::alloc::{AllocError, Global};
 use vl_config::{Config, Link};
 
@@ -44,6 +45,29 @@ pub const TROUBLES: [Anomaly; 6] = [TooLong, Excess, Out, Lost, Late, Alone];
 /// Both networks.
 pub const NETWORKS: [Network; 2] = [Network::A, Network::B];
 
+/// A report, and what it is shown with.
+#[derive(Clone, Copy)]
+pub struct Shown<'a> {
+    pub report: &'a Report,
+    /// The table that the ledger was judged by.
+    pub config: &'a Config,
+    /// Does a filter of the table take every frame whole, so that the bytes kept are those of the frames?
+    pub sizes: bool,
+    /// The manifest of the ledger's run, if it is known.
+    pub manifest: Option<&'a Manifest>,
+    /// The report of an earlier flight against the same table, if there is one.
+    pub baseline: Option<&'a Report>,
+    /// The path of the ledger.
+    pub ledger: &'a str,
+}
+
+/// How many bins a report uses.
+fn bins_used(report: &Report) -> u64 {
+    let length = report.end.saturating_sub(report.start).max(1);
+    let bins = quotient(length, report.width).saturating_add(1);
+    bins.min(BINS as u64)
+}
+
 /// The report with what is reckoned once for all parts.
 #[derive(Drop)]
 pub struct View<'a> {
@@ -58,24 +82,30 @@ pub struct View<'a> {
     pub ranks: Vec<Rank>,
     /// The report of an earlier flight, against the same table.
     pub baseline: Option<&'a Report>,
-    /// How fast the clocks of the taps drift, if they do.
-    pub drift: Option<Drift>,
+    pub manifest: Option<&'a Manifest>,
+    pub ledger: &'a str,
+}
+
+/// The path of a recording; the name of none where it isn't known.
+fn path_of<'a>(recording: Option<&'a RecordingRecord>, unknown: &'static str) -> &'a str {
+    recording.map_or(unknown, |recording| recording.path.as_str())
 }
 
 impl<'a> View<'a> {
-    /// What a page shows of a report: with the sizes of frames, and beside an earlier report, where those
-    /// are wanted.
+    /// What a page shows of a report.
     ///
     /// # Errors
     ///
     /// `AllocError` if there is no memory for it.
-    pub fn new(
-        alloc: Global,
-        report: &'a Report,
-        config: &'a Config,
-        sizes: bool,
-        baseline: Option<&'a Report>,
-    ) -> Result<View<'a>, AllocError> {
+    pub fn new(alloc: Global, shown: &Shown<'a>) -> Result<View<'a>, AllocError> {
+        let Shown {
+            report,
+            config,
+            sizes,
+            manifest,
+            baseline,
+            ledger,
+        } = *shown;
         let used = bins_used(report);
         Ok(View {
             report,
@@ -85,8 +115,65 @@ impl<'a> View<'a> {
             sizes,
             ranks: ranks_of(alloc, report)?,
             baseline,
-            drift: drift_of(alloc, report)?,
+            manifest,
+            ledger,
         })
+    }
+
+    /// The paths of the recordings, or names for them.
+    pub fn path_a(&self) -> &'a str {
+        path_of(
+            self.manifest
+                .and_then(|manifest| manifest.inputs.a.as_ref()),
+            "a.pcap",
+        )
+    }
+
+    pub fn path_b(&self) -> &'a str {
+        path_of(
+            self.manifest
+                .and_then(|manifest| manifest.inputs.b.as_ref()),
+            "b.pcap",
+        )
+    }
+
+    /// The timestamp of a time since the first line.
+    pub fn stamp(&self, time: i64) -> u64 {
+        self.report.start.saturating_add_signed(time)
+    }
+
+    /// A time since the first line.
+    pub fn after_start(&self, time: i64) -> Part<'static> {
+        Part::Seconds(u64::try_from(time).unwrap_or(0))
+    }
+
+    /// How long the flight is.
+    pub fn length(&self) -> Part<'static> {
+        Part::Duration(self.report.end.saturating_sub(self.report.start))
+    }
+
+    /// The place of a link in the table.
+    fn index_of(&self, id: VlId) -> Option<usize> {
+        let links = self.config.links();
+        links.binary_search_by_key(&id.0, |link| link.id.0).ok()
+    }
+
+    /// The name of a link.
+    pub fn name_of(&self, id: VlId) -> Option<&'a str> {
+        let link = self.config.links().get(self.index_of(id)?)?;
+        Some(link.name.as_str())
+    }
+
+    /// Has a link a strip?
+    pub fn has_strip_of(&self, id: VlId) -> bool {
+        let index = self.index_of(id);
+        let place = self
+            .ranks
+            .iter()
+            .take(STRIPS)
+            .position(|rank| Some(rank.index) == index);
+        let rank = place.and_then(|place| self.ranks.get(place).map(|rank| has_strip(rank, place)));
+        rank.unwrap_or(false)
     }
 
     /// How many frames each filter accepted: that of `--filter`, and those of the table.

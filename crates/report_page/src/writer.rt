@@ -28,6 +28,8 @@ pub enum Part<'a> {
     Text(&'a str),
     /// A text that was given to the program, of whatever characters.
     Given(&'a str),
+    /// The same as a word of a shell.
+    Word(&'a str),
     Letter(Network),
     Number(u64),
     /// A number, its groups of three digits apart.
@@ -80,10 +82,21 @@ pub fn flag(holds: bool) -> Part<'static> {
     Part::Text(if holds { "yes" } else { "" })
 }
 
-/// The part of this name, blank where there is none.
-fn part_of<'a>(parts: &[Named<'a>], name: &str) -> Part<'a> {
+/// The name in a piece of a template, of which every other is one.
+pub fn name_in(at: usize, piece: &str) -> &str {
+    if at % 2 == 0 {
+        return "";
+    }
+    piece.strip_prefix("?").unwrap_or(piece)
+}
+
+/// The part of this name, if there is one.
+pub fn part_of<'a>(parts: &[Named<'a>], name: &str) -> Option<Part<'a>> {
+    if name.is_empty() {
+        return None;
+    }
     let named = parts.iter().find(|part| part.0 == name);
-    named.map_or(Part::Text(""), |part| part.1)
+    named.map(|part| part.1)
 }
 
 /// A page as it is written. It keeps the failure of an append, so that nothing that appends has a result.
@@ -91,6 +104,11 @@ fn part_of<'a>(parts: &[Named<'a>], name: &str) -> Part<'a> {
 pub struct Page {
     written: String,
     failed: bool,
+    /// Is it a text, and not a page?
+    plain: bool,
+    /// How many conditions of a template are open, and the first of them that doesn't hold, counted from 1.
+    depth: usize,
+    hidden: usize,
 }
 
 impl Page {
@@ -99,7 +117,23 @@ impl Page {
         Page {
             written: String::new(alloc),
             failed: false,
+            plain: false,
+            depth: 0,
+            hidden: 0,
         }
+    }
+
+    /// An empty text, in which no character is written as a browser takes it.
+    pub fn plain(alloc: Global) -> Page {
+        Page {
+            plain: true,
+            ..Page::new(alloc)
+        }
+    }
+
+    /// What was written so far.
+    pub fn written(&self) -> &str {
+        &self.written
     }
 
     /// What was written.
@@ -120,8 +154,45 @@ impl Page {
         self.failed |= self.written.push_str(text).is_err();
     }
 
+    /// Appends a text as a string of JSON.
+    pub fn quoted(&mut self, text: &str) {
+        self.text("\"");
+        for character in text.chars() {
+            match character {
+                '"' => self.text("\\\""),
+                '\\' => self.text("\\\\"),
+                '\u{0}'..='\u{1f}' => {
+                    let code = u32::from(character);
+                    self.failed |= write!(self.written, "\\u{code:04x}").is_err();
+                }
+                _ => self.failed |= self.written.push(character).is_err(),
+            }
+        }
+        self.text("\"");
+    }
+
+    /// Appends a text as a word of a shell.
+    fn word(&mut self, text: &str) {
+        let is_safe = |character: char| {
+            character.is_ascii_alphanumeric()
+                || matches!(character, '/' | '.' | '_' | '-' | '@' | '+' | ',')
+        };
+        if !text.is_empty() && text.chars().all(is_safe) {
+            return self.given(text);
+        }
+        self.given("'");
+        for (at, piece) in text.split('\'').enumerate() {
+            self.given(if at > 0 { "'\\''" } else { "" });
+            self.given(piece);
+        }
+        self.given("'");
+    }
+
     /// Appends a text in which nothing means anything to a browser.
     fn given(&mut self, text: &str) {
+        if self.plain {
+            return self.text(text);
+        }
         for character in text.chars() {
             if matches!(character, ' '..='~') && !matches!(character, '&' | '<' | '>' | '"') {
                 self.failed |= self.written.push(character).is_err();
@@ -132,27 +203,59 @@ impl Page {
         }
     }
 
-    /// Appends a template. `$name$` is the part of that name, and what stands between `$?name$` and `$/$` is
+    /// Appends a template. `$name$` is the part of that name, and what stands between `$?name$` and its `$/$` is
     /// left out where that part is blank.
     pub fn fill(&mut self, template: &str, parts: &[Named<'_>]) {
-        let mut shown = true;
         for (at, piece) in template.split('$').enumerate() {
-            if at % 2 == 0 {
-                self.text(if shown { piece } else { "" });
-            } else if piece == "/" {
-                shown = true;
-            } else if let Some(name) = piece.strip_prefix("?") {
-                shown = !part_of(parts, name).is_blank();
-            } else if shown {
-                self.part(part_of(parts, piece));
-            }
+            let part = part_of(parts, name_in(at, piece));
+            self.piece(at, piece, part.unwrap_or(Part::Text("")));
         }
+    }
+
+    /// Appends a piece of a template, of which every other is a name or a condition, with its part.
+    pub fn piece(&mut self, at: usize, piece: &str, part: Part<'_>) {
+        if at % 2 == 0 {
+            self.shown_text(piece);
+        } else if piece == "/" {
+            self.leave();
+        } else if piece.starts_with('?') {
+            self.enter(part.is_blank());
+        } else if self.is_shown() {
+            self.part(part);
+        }
+    }
+
+    /// Appends a text where nothing is left out.
+    pub fn shown_text(&mut self, text: &str) {
+        self.text(if self.is_shown() { text } else { "" });
+    }
+
+    /// Is nothing left out now?
+    pub fn is_shown(&self) -> bool {
+        self.hidden == 0
+    }
+
+    /// Begins what is left out where a part is blank.
+    fn enter(&mut self, blank: bool) {
+        self.depth = self.depth.saturating_add(1);
+        if self.hidden == 0 && blank {
+            self.hidden = self.depth;
+        }
+    }
+
+    /// Ends it.
+    fn leave(&mut self) {
+        if self.hidden == self.depth {
+            self.hidden = 0;
+        }
+        self.depth = self.depth.saturating_sub(1);
     }
 
     fn part(&mut self, part: Part<'_>) {
         match part {
             Part::Text(text) => self.text(text),
             Part::Given(text) => self.given(text),
+            Part::Word(text) => self.word(text),
             Part::Letter(network) => self.text(network.letter()),
             Part::Number(value) => self.number(value, 1),
             Part::Grouped(value) => self.grouped(value),
@@ -197,6 +300,11 @@ impl Page {
         self.failed |= write!(self.written, "{word:<8} {value:>5}").is_err();
     }
 
+    /// Appends a word on the left of a field of eight columns, and a space.
+    pub fn level(&mut self, word: &str) {
+        self.failed |= write!(self.written, "{word:<8} ").is_err();
+    }
+
     /// Appends a number with so many digits at least.
     fn number(&mut self, value: u64, digits: usize) {
         self.failed |= write!(self.written, "{value:0digits$}").is_err();
@@ -228,7 +336,7 @@ impl Page {
         for _ in 0..6 {
             if value >= place {
                 self.number(quotient(value, place) % 1000, digits);
-                self.text("&#8239;");
+                self.text(if self.plain { "" } else { "&#8239;" });
                 digits = 3;
             }
             place /= 1000;
@@ -273,12 +381,13 @@ impl Page {
     fn duration(&mut self, value: u64) {
         // A unit begins where the one before would be rounded up to it.
         let (unit, name) = match value {
-            0 | 999_500_000.. => (SECOND, "&#8239;s"),
-            999_500.. => (1_000_000, "&#8239;ms"),
-            1_000.. => (1_000, "&#8239;&#181;s"),
-            _ => (1, "&#8239;ns"),
+            0 | 999_500_000.. => (SECOND, "s"),
+            999_500.. => (1_000_000, "ms"),
+            1_000.. => (1_000, if self.plain { "us" } else { "&#181;s" }),
+            _ => (1, "ns"),
         };
         self.three_digits(value, unit);
+        self.text(if self.plain { " " } else { "&#8239;" });
         self.text(name);
     }
 

@@ -128,13 +128,14 @@ fn utc(alloc: Global, stamp: u64) -> Result<String, AllocError> {
 }
 
 impl Program {
-    /// Of the text that the program prints for its version: `0.2.0 (commit 0123456789ab)`.
+    /// Of the text that the program prints for its version: `1.0.0 (commit 0123456789ab)`, and what follows.
     pub fn of_version(alloc: Global, name: &str, text: &str) -> Result<Program, AllocError> {
         let (version, rest) = text.split_once(" (commit ").unwrap_or((text, ""));
+        let (commit, _) = rest.split_once(')').unwrap_or((rest, ""));
         Ok(Program {
             name: owned(alloc, name)?,
             version: owned(alloc, version)?,
-            commit: owned(alloc, rest.strip_suffix(')').unwrap_or(rest))?,
+            commit: owned(alloc, commit)?,
         })
     }
 }

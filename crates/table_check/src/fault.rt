@@ -1,10 +1,6 @@
 //! A fault of a table, and what it is about.
 
-ghost use Rattle.std.specs.Prelude.{◌≡◌, ◌++◌, OnOk, IfOk, string_bytes};
-ghost use Rattle.table_check.specs.Faults.{of_key, of_name, of_whole, told};
-
-use std::alloc::{AllocError, Global};
-use std::marker::Model;
+use std::alloc::Global;
 use vl_config::{ConfigFault, Key};
 
 /// A fault of a table, and the key that it is about.
@@ -18,23 +14,8 @@ pub struct TableFault {
     pub unknown: String,
 }
 
-impl Model for TableFault {
-    ghost use Rattle.std.specs.Prelude.{string_bytes};
-    ghost use Rattle.table_check.specs.Faults.{FoundFault};
-
-    ghost Value = { FoundFault };
-
-    ghost view = { λ found. record {
-      fault = found.fault;
-      key = found.key;
-      unknown = string_bytes found.unknown;
-    } };
-}
-
 /// A fault of no single key.
-pub fn of_whole(alloc: Global, fault: ConfigFault) -> TableFault
-    ensures { result ≡ of_whole fault }
-{
+pub fn of_whole(alloc: Global, fault: ConfigFault) -> TableFault {
     TableFault {
         fault,
         key: None,
@@ -42,45 +23,11 @@ pub fn of_whole(alloc: Global, fault: ConfigFault) -> TableFault
     }
 }
 
-/// Adds the fault of a key, if there is one.
-pub fn tell_key(
-    alloc: Global,
-    faults: &mut Vec<TableFault>,
-    is_fault: bool,
-    fault: ConfigFault,
-    key: Key,
-) -> Result<(), AllocError>
-    ensures { OnOk result (faults.new.items
-        ≡ faults.old.items ++ told is_fault (of_key fault key)) }
-{
-    if is_fault {
-        faults.push(TableFault {
-            fault,
-            key: Some(key),
-            unknown: String::new(alloc),
-        })?;
+/// The fault of a key.
+pub fn of_key(alloc: Global, fault: ConfigFault, key: Key) -> TableFault {
+    TableFault {
+        fault,
+        key: Some(key),
+        unknown: String::new(alloc),
     }
-    Ok(())
-}
-
-/// Adds the fault of a name that is no key, if there is one.
-pub fn tell_name(
-    alloc: Global,
-    faults: &mut Vec<TableFault>,
-    is_fault: bool,
-    fault: ConfigFault,
-    name: &str,
-) -> Result<(), AllocError>
-    ensures { OnOk result (faults.new.items
-        ≡ faults.old.items ++ told is_fault (of_name fault name.now)) }
-{
-    if is_fault {
-        let unknown = String::from_str(alloc, name)?;
-        faults.push(TableFault {
-            fault,
-            key: None,
-            unknown,
-        })?;
-    }
-    Ok(())
 }

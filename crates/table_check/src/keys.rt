@@ -1,97 +1,57 @@
 //! The faults of the keys of one table.
 
-ghost use Rattle.std.specs.Prelude.{◌≡◌, ◌++◌, OnOk};
-ghost use Rattle.std.specs.List.{flat_map};
-ghost use Rattle.toml.specs.View.{table_view};
-ghost use Rattle.table_check.specs.Faults.{is_good, keys_faults, kind_fault, missing_fault, names_of, range_fault, unknown_fault};
-
-use crate::fault::{TableFault, tell_key, tell_name};
+use crate::fault::{TableFault, of_key};
 use std::alloc::{AllocError, Global};
 use toml::Table;
 use vl_config::{ConfigFault, Key, is_missing, is_other_kind, is_out_of_range, is_unknown};
 
 /// Is the key there, with a value of its type and in its range?
-pub fn is_good(table: &Table, key: Key) -> bool
-    ensures { result ≡ is_good (table_view table.now) key }
-{
+pub fn is_good(table: &Table, key: Key) -> bool {
     !is_missing(table, key) && !is_other_kind(table, key) && !is_out_of_range(table, key)
 }
 
-#[tactic(auto, using(std::proofs::lemmas::List::flat_map_more, std::proofs::lemmas::List::take_more))]
-fn tell_missing(
-    alloc: Global,
-    faults: &mut Vec<TableFault>,
-    keys: &[Key],
-    link: Option<u32>,
-    table: &Table,
-) -> Result<(), AllocError>
-    ensures { OnOk result (faults.new.items
-        ≡ faults.old.items ++ flat_map (missing_fault link (table_view table.now)) keys.now) }
-{
-    for key in keys {
-        let is_fault = is_missing(table, *key);
-        tell_key(alloc, faults, is_fault, ConfigFault::Missing { link }, *key)?;
+/// Has a table this fault at a key? A value of another type is not out of its range too.
+fn has_fault(table: &Table, key: Key, fault: ConfigFault) -> bool {
+    match fault {
+        ConfigFault::Missing { .. } => is_missing(table, key),
+        ConfigFault::Kind { .. } => is_other_kind(table, key),
+        ConfigFault::Range { .. } => { !is_other_kind(table, key) && is_out_of_range(table, key) }
+        _ => false,
     }
-    Ok(())
 }
 
-#[tactic(auto, using(std::proofs::lemmas::List::flat_map_more, std::proofs::lemmas::List::take_more))]
-fn tell_kind(
+/// Adds this fault of each key that has it.
+fn tell_each(
     alloc: Global,
     faults: &mut Vec<TableFault>,
     keys: &[Key],
-    link: Option<u32>,
+    fault: ConfigFault,
     table: &Table,
-) -> Result<(), AllocError>
-    ensures { OnOk result (faults.new.items
-        ≡ faults.old.items ++ flat_map (kind_fault link (table_view table.now)) keys.now) }
-{
+) -> Result<(), AllocError> {
     for key in keys {
-        let is_fault = is_other_kind(table, *key);
-        tell_key(alloc, faults, is_fault, ConfigFault::Kind { link }, *key)?;
-    }
-    Ok(())
-}
-
-#[tactic(auto, using(std::proofs::lemmas::List::flat_map_more, std::proofs::lemmas::List::take_more))]
-fn tell_range(
-    alloc: Global,
-    faults: &mut Vec<TableFault>,
-    keys: &[Key],
-    link: Option<u32>,
-    table: &Table,
-) -> Result<(), AllocError>
-    ensures { OnOk result (faults.new.items
-        ≡ faults.old.items ++ flat_map (range_fault link (table_view table.now)) keys.now) }
-{
-    for key in keys {
-        let is_fault = !is_other_kind(table, *key) && is_out_of_range(table, *key);
-        tell_key(alloc, faults, is_fault, ConfigFault::Range { link }, *key)?;
+        if has_fault(table, *key, fault) {
+            faults.push(of_key(alloc, fault, *key))?;
+        }
     }
     Ok(())
 }
 
 /// Adds the names in the table, in the order of their bytes, that are none of the keys.
-#[tactic(auto, using(std::proofs::lemmas::List::flat_map_more))]
 fn tell_unknown(
     alloc: Global,
     faults: &mut Vec<TableFault>,
     keys: &[Key],
     link: Option<u32>,
     table: &Table,
-) -> Result<(), AllocError>
-    ensures { OnOk result (faults.new.items
-        ≡ faults.old.items ++ flat_map (unknown_fault keys.now link) (names_of (table_view table.now))) }
-{
+) -> Result<(), AllocError> {
     for name in table.keys() {
-        let is_fault = is_unknown(keys, name.as_str());
-        tell_name(
-            alloc,
-            faults,
-            is_fault,
-            ConfigFault::UnknownKey { link },
-            name.as_str(),
-        )?;
+        if is_unknown(keys, name.as_str()) {
+            faults.push(TableFault {
+                fault: ConfigFault::UnknownKey { link },
+                key: None,
+                unknown: String::from_str(alloc, name.as_str())?,
+            })?;
+        }
     }
     Ok(())
 }
@@ -103,12 +63,9 @@ pub fn tell_keys(
     keys: &[Key],
     link: Option<u32>,
     table: &Table,
-) -> Result<(), AllocError>
-    ensures { OnOk result (faults.new.items
-        ≡ faults.old.items ++ keys_faults keys.now link (table_view table.now)) }
-{
-    tell_missing(alloc, faults, keys, link, table)?;
-    tell_kind(alloc, faults, keys, link, table)?;
-    tell_range(alloc, faults, keys, link, table)?;
+) -> Result<(), AllocError> {
+    tell_each(alloc, faults, keys, ConfigFault::Missing { link }, table)?;
+    tell_each(alloc, faults, keys, ConfigFault::Kind { link }, table)?;
+    tell_each(alloc, faults, keys, ConfigFault::Range { link }, table)?;
     tell_unknown(alloc, faults, keys, link, table)
 }

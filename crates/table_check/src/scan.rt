@@ -1,7 +1,5 @@
 //! Walks over the top level of a TOML document, to the place of a key. The keys and strings are read by the
 //! same parser as the document.
-ghost use Rattle.std.specs.Prelude.{◌≡◌, true, drop, IfSome};
-ghost use Rattle.table_check.specs.Place.{BeginsWithKey};
 
 use std::alloc::Global;
 use toml_parser::text::{byte_at, first, skip_blank, skip_ws};
@@ -141,9 +139,7 @@ fn table_of(link: Option<u32>) -> Inside {
 }
 
 /// Does the text begin with a key of this name, without further parts?
-fn begins_with_key(alloc: Global, text: &str, name: &str) -> bool
-    ensures { result ≡ true → BeginsWithKey text.now name.now }
-{
+fn begins_with_key(alloc: Global, text: &str, name: &str) -> bool {
     match dotted_key(alloc, text) {
         Ok((key, _)) => key.path.is_empty() && key.last.as_str() == name,
         Err(_) => false,
@@ -202,9 +198,7 @@ fn offset_in_either(alloc: Global, text: &str, link: Option<u32>, name: &str) ->
 
 /// The byte offset of a key of the network's table, or of the link at an index. None: the document has no
 /// such key, or writes it in a form that isn't looked for, as in a table's header; or there is no memory.
-pub fn key_offset(alloc: Global, text: &str, link: Option<u32>, name: &str) -> Option<usize>
-    ensures { IfSome result (λ at. BeginsWithKey (drop at text.now) name.now) }
-{
+pub fn key_offset(alloc: Global, text: &str, link: Option<u32>, name: &str) -> Option<usize> {
     let at = offset_in_either(alloc, text, link, name)?;
     // The walk may be wrong of a form that it doesn't know: the key is read at its place again.
     if begins_with_key(alloc, text.get(at..)?, name) {

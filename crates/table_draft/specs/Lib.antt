@@ -1,5 +1,1 @@
-pub mod Comparing
 pub mod Drafts
-pub mod Estimates
-pub mod Refusals
-pub mod Rules

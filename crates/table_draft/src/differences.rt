@@ -1,8 +1,5 @@
 //! Where a link was seen otherwise than it is specified.
 
-ghost use Rattle.std.specs.Prelude.{◌≡◌};
-ghost use Rattle.table_draft.specs.Comparing.{all_differences, bag_difference, flag_difference, has_stand, limit_difference, no_difference, stand_to};
-
 use crate::known::Seen;
 use icd_links::IcdLink;
 use std::fmt;
@@ -12,26 +9,30 @@ use vl_config::Key;
 /// How a value that was seen stands to the one that is specified.
 #[derive(Clone, Copy, PartialEq, Eq)]
 pub enum Stand {
-    /// It is the same, or one of the two isn't known.
+    /// It is the same, or none was seen.
     Same,
     /// A limit that the frames don't need, or a BAG that they don't use up.
     Within,
     /// The frames contradict what is specified.
     Beyond,
+    /// It isn't specified.
+    Unspecified,
+    /// It is neither specified nor seen.
+    Unknown,
 }
 
-/// A value that was seen.
-#[derive(Clone, Copy)]
-pub enum SeenValue {
+/// A value of a key.
+#[derive(Clone, Copy, PartialEq, Eq)]
+pub enum KeyValue {
     Number(u64),
     Flag(bool),
 }
 
-impl Display for SeenValue {
+impl Display for KeyValue {
     fn fmt<W: fmt::Write>(&self, f: &mut Formatter<W>) -> fmt::Result {
         match self {
-            SeenValue::Number(number) => write!(f, "{number}"),
-            SeenValue::Flag(flag) => write!(f, "{flag}"),
+            KeyValue::Number(number) => write!(f, "{number}"),
+            KeyValue::Flag(flag) => write!(f, "{flag}"),
         }
     }
 }
@@ -40,98 +41,68 @@ impl Display for SeenValue {
 #[derive(Clone, Copy)]
 pub struct Difference {
     pub key: Key,
-    pub seen: SeenValue,
+    pub seen: Option<KeyValue>,
     pub stand: Stand,
 }
 
 /// How many keys a draft has of a link beside its identifier and name.
 pub const COMPARED: usize = 6;
 
-/// How the greatest that was seen stands to a limit.
-fn stand_of_limit(limit: u64, seen: u64) -> Stand
-    ensures { result ≡ stand_to limit seen }
-{
-    if seen > limit {
+/// How the greatest that was seen stands to a limit. The BAG is the least interval: a longer one that was
+/// seen is within it.
+fn stand_to(key: Key, specified: u64, seen: u64) -> Stand {
+    let (limit, reached) = match key {
+        Key::BagMs => (seen, specified),
+        _ => (specified, seen),
+    };
+    if reached > limit {
         Stand::Beyond
-    } else if seen < limit {
+    } else if reached < limit {
         Stand::Within
     } else {
         Stand::Same
     }
 }
 
-fn of_limit(key: Key, limit: Option<u64>, seen: Option<u64>) -> Difference
-    ensures { result ≡ limit_difference key limit seen }
-{
-    match (limit, seen) {
-        (Some(limit), Some(seen)) => Difference {
-            key,
-            seen: SeenValue::Number(seen),
-            stand: stand_of_limit(limit, seen),
-        },
-        _ => same(key),
-    }
+fn of(key: Key, specified: Option<KeyValue>, seen: Option<KeyValue>) -> Difference {
+    let stand = match (specified, seen) {
+        (Some(KeyValue::Number(specified)), Some(KeyValue::Number(seen))) => {
+            stand_to(key, specified, seen)
+        }
+        (Some(specified), Some(seen)) if specified != seen => Stand::Beyond,
+        (Some(_), _) => Stand::Same,
+        (None, Some(_)) => Stand::Unspecified,
+        (None, None) => Stand::Unknown,
+    };
+    Difference { key, seen, stand }
 }
 
-/// The BAG is the least interval: a longer one that was seen is within it.
-fn of_bag(specified: Option<u64>, seen: Option<u64>) -> Difference
-    ensures { result ≡ bag_difference specified seen }
-{
-    match (specified, seen) {
-        (Some(specified), Some(seen)) => Difference {
-            key: Key::BagMs,
-            seen: SeenValue::Number(seen),
-            stand: stand_of_limit(seen, specified),
-        },
-        _ => same(Key::BagMs),
-    }
-}
-
-fn of_flag(key: Key, specified: Option<bool>, seen: Option<bool>) -> Difference
-    ensures { result ≡ flag_difference key specified seen }
-{
-    match (specified, seen) {
-        (Some(specified), Some(seen)) => Difference {
-            key,
-            seen: SeenValue::Flag(seen),
-            stand: if specified == seen {
-                Stand::Same
-            } else {
-                Stand::Beyond
-            },
-        },
-        _ => same(key),
-    }
-}
-
-fn same(key: Key) -> Difference
-    ensures { result ≡ no_difference key }
-{
-    Difference {
+fn of_number(key: Key, specified: Option<u64>, seen: Option<u64>) -> Difference {
+    of(
         key,
-        seen: SeenValue::Number(0),
-        stand: Stand::Same,
-    }
+        specified.map(KeyValue::Number),
+        seen.map(KeyValue::Number),
+    )
+}
+
+fn of_flag(key: Key, specified: Option<bool>, seen: Option<bool>) -> Difference {
+    of(key, specified.map(KeyValue::Flag), seen.map(KeyValue::Flag))
 }
 
 /// How the values of a link that were seen stand to those that are specified.
-pub fn differences(specified: &IcdLink, seen: &Seen) -> [Difference; COMPARED]
-    ensures { result ≡ all_differences specified.now seen.now }
-{
+pub fn differences(specified: &IcdLink, seen: &Seen) -> [Difference; COMPARED] {
     [
-        of_bag(specified.bag_ms, seen.bag_ms),
-        of_limit(Key::JitterUs, specified.jitter_us, seen.jitter_us),
-        of_limit(Key::Smax, specified.smax, seen.smax),
+        of_number(Key::BagMs, specified.bag_ms, seen.bag_ms),
+        of_number(Key::JitterUs, specified.jitter_us, seen.jitter_us),
+        of_number(Key::Smax, specified.smax, seen.smax),
         of_flag(Key::Integrity, specified.integrity, seen.integrity),
         of_flag(Key::Redundancy, specified.redundancy, seen.redundancy),
-        of_limit(Key::SkewUs, specified.skew_us, seen.skew_us),
+        of_number(Key::SkewUs, specified.skew_us, seen.skew_us),
     ]
 }
 
 /// Does one of them stand so?
-pub fn has(differences: &[Difference], stand: Stand) -> bool
-    ensures { result ≡ has_stand stand differences.now }
-{
+pub fn has(differences: &[Difference], stand: Stand) -> bool {
     differences
         .iter()
         .any(|difference| difference.stand == stand)

@@ -1,31 +1,26 @@
 //! A draft: its text, and how what was seen stands to what is specified.
 
-ghost use Rattle.std.specs.Prelude.{◌≡◌, ◌<◌, ◌^◌, ℕ, List, IfErr, IfOk, None, Option, length, option_copied, string_bytes};
-ghost use Rattle.afdx_frame.specs.Frame.{Frame};
-ghost use Rattle.traffic_survey.specs.NetworkFrames.{Surveys};
-ghost use Rattle.table_draft.specs.Drafts.{SaysDraft, icd_list};
-ghost use Rattle.table_draft.specs.Refusals.{RefusesDraft};
+ghost use Rattle.std.specs.Prelude.{◌≡◌, IfOk, None, string_bytes};
 ghost use Rattle.vl_config.specs.Document.{first_fault};
-ghost use Rattle.table_draft.specs.declared.draft.DraftFault.TheVariants.{Memory};
+ghost use Rattle.table_draft.specs.Drafts.{ReadsBack};
 
 use crate::beside::{Comparison, write_beside};
-use crate::checked::is_draft_of;
-use crate::known::Known;
+use crate::checked::is_table_of;
+use crate::known::{Drafted, Known};
 use crate::left_out::LeftOut;
 use crate::recordings::Recordings;
-use crate::refusals::have_fault;
 use crate::text::{
     HEADER, ICD_HEADER, write_constants, write_ending, write_keys, write_seen, write_unusable,
 };
 use afdx_frame::VlId;
 use icd_links::IcdLinks;
 use std::alloc::{AllocError, Global};
-use traffic_survey::{CutLinks, Field, Survey};
+use traffic_survey::{CutLinks, Field, LinkSurvey, Survey};
 use vl_config::{Config, ConfigFault};
 
 /// The constant field of a draft where none was seen or asked for: the bits of a group address, locally
 /// administered (IEEE 802.3), and nothing else.
-pub const USUAL_CONSTANT: u32 = 0x0300_0000;
+const USUAL_CONSTANT: u32 = 0x0300_0000;
 
 /// What a draft is made of.
 #[derive(Clone, Copy)]
@@ -44,8 +39,14 @@ pub struct Sources<'a> {
 /// The draft of a table.
 #[derive(Drop)]
 pub struct Draft {
-    /// A TOML document that [`Config::read`] takes.
+    /// A TOML document that [`Config::read`] takes. The table that it says has what follows, and no filter.
     pub text: String,
+    /// The constant field.
+    pub constant: u32,
+    /// The window for late timestamps, in microseconds.
+    pub late_us: u64,
+    /// The links, by rising identifier.
+    pub links: Vec<Drafted>,
     /// How what was seen stands to what is specified.
     pub comparison: Comparison,
 }
@@ -55,52 +56,59 @@ pub struct Draft {
 pub enum DraftFault {
     /// Its links make no table: there are more than 4096, or two have one name.
     NoTable(ConfigFault),
-    /// The text that was written says no table, though the draft's links have no such fault, or another table
-    /// than the draft is to have. No input is known that leads here.
+    /// The text that was written says another table than the draft is to have. No input is known that leads
+    /// here.
     Unlike,
     /// The system is out of memory, at whatever piece of the text.
     Memory,
 }
 
 impl From<AllocError> for DraftFault {
-    ghost from_gives = { λ _ e. e ≡ Memory };
-
     fn from(_e: AllocError) -> DraftFault {
         DraftFault::Memory
     }
 }
 
 /// The draft of a table, a TOML document. It is read back before it is given: [`Config::read`] takes it, and
-/// the table has the constant field, and the links that are specified or seen, each with its values, and no
-/// other.
+/// the table has the constant field, and the links that the document specifies, or without a document those
+/// that were seen, each with its values, and no other. Links that the document lacks stand in comments.
 ///
 /// # Errors
 ///
 /// `NoTable` if the document and the recordings have more than 4096 links together, or the document gives a
 /// link the name that the draft has for another. `Memory` if the system is out of memory.
 pub fn draft_of(alloc: Global, sources: &Sources<'_>) -> Result<Draft, DraftFault>
-    ensures reads_back { IfOk result (λ draft. first_fault (string_bytes draft.text) ≡ None) }
-    ensures table { IfOk result (λ draft. (wanted : Option ℕ) (frames : List Frame)
-        → length frames < 2 ^ 32
-        → Surveys wanted sources.now.survey.now frames
-        → SaysDraft (icd_list (option_copied sources.now.icd)) sources.now.constant
-        sources.now.recordings sources.now.survey.now frames (string_bytes draft.text)) }
-    ensures refused { IfErr result (λ fault. (wanted : Option ℕ) (frames : List Frame)
-        → Surveys wanted sources.now.survey.now frames
-        → RefusesDraft (icd_list (option_copied sources.now.icd)) sources.now.survey.now frames fault) }
+    ensures no_fault { IfOk result (λ draft. first_fault (string_bytes draft.text) ≡ None) }
+    ensures reads_back { IfOk result ReadsBack }
 {
-    let mut text = String::new(alloc);
-    write_head(&mut text, sources)?;
-    let main = sources.survey.main_field();
-    write_constant(&mut text, sources, main)?;
-    write_window(&mut text, sources.recordings)?;
-    let comparison = write_links(&mut text, sources, main)?;
-    match Config::read(alloc, text.as_str()) {
-        Ok(table) if is_draft_of(&table, sources, main) => Ok(Draft { text, comparison }),
+    let draft = written(alloc, sources)?;
+    match Config::read(alloc, draft.text.as_str()) {
+        Ok(table) if is_table_of(&table, &draft) => Ok(draft),
+        Ok(_) => Err(DraftFault::Unlike),
         Err(ConfigFault::Memory) => Err(DraftFault::Memory),
-        Err(fault) if have_fault(fault, sources.icd, main) => Err(DraftFault::NoTable(fault)),
-        Ok(_) | Err(_) => Err(DraftFault::Unlike),
+        Err(fault) => Err(DraftFault::NoTable(fault)),
     }
+}
+
+/// The draft, as it is written before it is read back.
+fn written(alloc: Global, sources: &Sources<'_>) -> Result<Draft, AllocError> {
+    let main = sources.survey.main_field();
+    let constant = match main {
+        Some(main) => main.constant,
+        None => sources.constant.unwrap_or(USUAL_CONSTANT),
+    };
+    let mut draft = Draft {
+        text: String::new(alloc),
+        constant,
+        late_us: sources.recordings.window_us(),
+        links: Vec::new(alloc),
+        comparison: Comparison::new(),
+    };
+    write_head(&mut draft.text, sources)?;
+    write_constant(&mut draft.text, sources, main, constant)?;
+    write_window(&mut draft.text, sources.recordings, draft.late_us)?;
+    write_links(alloc, &mut draft, sources, main)?;
+    Ok(draft)
 }
 
 /// What the draft is, and how the recordings were read.
@@ -111,7 +119,7 @@ fn write_head(text: &mut String, sources: &Sources<'_>) -> Result<(), AllocError
     }
     write_ending(text, "A", sources.recordings.a)?;
     write_ending(text, "B", sources.recordings.b)?;
-    write_unusable(text, sources.survey.unusable())?;
+    write_unusable(text, sources.survey.unusable)?;
     write_left_out(text, LeftOut(sources))
 }
 
@@ -142,66 +150,70 @@ fn write_constant(
     text: &mut String,
     sources: &Sources<'_>,
     main: Option<&Field>,
+    constant: u32,
 ) -> Result<(), AllocError> {
     if let Some(main) = main {
         return write_constants(text, sources.survey, main);
     }
     let absent = absent_constant(sources);
-    match sources.constant {
-        Some(constant) => write!(text, "# {absent}.\nconstant = {constant}\n"),
-        None => {
-            let constant = USUAL_CONSTANT;
-            write!(
-                text,
-                "# {absent}: 0x{constant:08x} is assumed.\nconstant = {constant}\n"
-            )
-        }
+    write!(text, "# {absent}")?;
+    if sources.constant.is_none() {
+        write!(text, ": 0x{constant:08x} is assumed")?;
     }
+    write!(text, ".\nconstant = {constant}\n")
 }
 
 /// The window for late timestamps.
-fn write_window(text: &mut String, recordings: Recordings) -> Result<(), AllocError> {
-    let (window, late) = (recordings.window_us(), recordings.late_us());
+fn write_window(text: &mut String, recordings: Recordings, late_us: u64) -> Result<(), AllocError> {
     write!(
         text,
-        "late_us = {window}  # room for timestamps out of order"
+        "late_us = {late_us}  # room for timestamps out of order"
     )?;
     if !recordings.is_any() {
         return text.push_str(": no recording was given\n");
     }
-    if late == 0 {
-        return text.push_str(": none was seen\n");
+    match recordings.late_us() {
+        0 => text.push_str(": none was seen\n"),
+        late => write!(text, ": one was {late} us late\n"),
     }
-    write!(text, ": one was {late} us late\n")
 }
 
 /// The links that are specified or seen, by rising identifier.
 fn write_links(
-    text: &mut String,
+    alloc: Global,
+    draft: &mut Draft,
     sources: &Sources<'_>,
     main: Option<&Field>,
-) -> Result<Comparison, AllocError> {
-    let mut comparison = Comparison::new();
+) -> Result<(), AllocError> {
     // The links of the document come by rising identifier too: so many of them were met.
-    let mut met = 0u32;
+    let mut met = 0usize;
     for id in 0u16..=u16::MAX {
         let link = known_of(sources.icd, met, main, VlId(id));
-        met = met.saturating_add(u32::from(link.specified.is_some()));
-        if link.specified.is_some() || link.seen.is_some() {
-            write_link(text, sources, &link, &mut comparison)?;
+        met = met.saturating_add(usize::from(link.specified.is_some()));
+        if link.is_any() {
+            let drafted = link.drafted(alloc)?;
+            match link.seen {
+                Some(seen) if sources.icd.is_some() && link.specified.is_none() => {
+                    write_unspecified(alloc, draft, seen, &drafted)?;
+                }
+                _ => {
+                    write_link(draft, sources, &link, &drafted)?;
+                    draft.links.push(drafted)?;
+                }
+            }
         }
     }
-    Ok(comparison)
+    Ok(())
 }
 
 /// What is known of a link: what the document's next link specifies, if it is this one, and what was seen.
 fn known_of<'a>(
     icd: Option<&'a IcdLinks>,
-    next: u32,
+    next: usize,
     main: Option<&'a Field>,
     id: VlId,
 ) -> Known<'a> {
-    let next = icd.and_then(|icd| icd.links().get(next as usize));
+    let next = icd.and_then(|icd| icd.links().get(next));
     Known {
         id,
         specified: next.filter(|link| link.id == id),
@@ -211,18 +223,41 @@ fn known_of<'a>(
 
 /// A link's table.
 fn write_link(
-    text: &mut String,
+    draft: &mut Draft,
     sources: &Sources<'_>,
     link: &Known<'_>,
-    comparison: &mut Comparison,
+    drafted: &Drafted,
 ) -> Result<(), AllocError> {
-    let drafted = link.drafted();
+    let (text, bag_ms) = (&mut draft.text, drafted.values.bag_ms);
     text.push_str("\n[[link]]\n")?;
     if let Some(seen) = link.seen {
-        write_seen(text, seen, drafted.bag)?;
+        write_seen(text, seen, bag_ms)?;
     }
     if sources.icd.is_some() {
-        write_beside(text, link, drafted, sources.recordings, comparison)?;
+        let comparison = &mut draft.comparison;
+        write_beside(text, link, bag_ms, sources.recordings, comparison)?;
     }
-    write_keys(text, link, drafted)
+    write_keys(text, drafted)
+}
+
+/// A link that was seen and that the document lacks, in comments: a person who knows it may take them off.
+fn write_unspecified(
+    alloc: Global,
+    draft: &mut Draft,
+    seen: &LinkSurvey,
+    drafted: &Drafted,
+) -> Result<(), AllocError> {
+    let mut block = String::new(alloc);
+    block.push_str("[[link]]\n")?;
+    write_seen(&mut block, seen, drafted.values.bag_ms)?;
+    write_keys(&mut block, drafted)?;
+    let comparison = &mut draft.comparison;
+    comparison.unspecified = comparison.unspecified.saturating_add(1);
+    let text = &mut draft.text;
+    text.push_str("\n# The ICD has no such link: its frames are unconfigured.\n")?;
+    for line in block.lines() {
+        let mark = if line.starts_with('#') { "" } else { "# " };
+        write!(text, "{mark}{line}\n")?;
+    }
+    Ok(())
 }

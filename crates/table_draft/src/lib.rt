@@ -11,13 +11,12 @@ mod draft;
 mod estimate;
 mod known;
 mod left_out;
-mod names;
 mod recordings;
-mod refusals;
 mod text;
 
 pub use beside::Comparison;
 pub use draft::{Draft, DraftFault, Sources, draft_of};
 pub use estimate::Estimate;
-pub use left_out::LeftOut;
+pub use known::Drafted;
+pub use left_out::{LeftOut, Unspecified};
 pub use recordings::Recordings;

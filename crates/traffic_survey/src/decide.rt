@@ -1,7 +1,7 @@
 //! What numbers of two recordings say of them. Each is a function of counts alone.
 
 ghost use Rattle.std.specs.Prelude.{◌≡◌};
-ghost use Rattle.traffic_survey.specs.Decide.{are_copies_few, is_agreed, is_marked_a, is_marked_b, is_nearly_all, overlap_after, overlap_of, wiring_of};
+ghost use Rattle.traffic_survey.specs.Decide.{is_nearly_all};
 
 /// Are so many of all frames nearly all of them, nine in ten? Of no frame none are.
 pub fn is_nearly_all(count: u64, frames: u64) -> bool
@@ -29,9 +29,7 @@ pub enum Overlap {
     Unknown,
 }
 
-fn overlap_after(is_whole: bool) -> Overlap
-    ensures { result ≡ overlap_after is_whole }
-{
+fn overlap_after(is_whole: bool) -> Overlap {
     if is_whole {
         Overlap::Apart
     } else {
@@ -40,9 +38,7 @@ fn overlap_after(is_whole: bool) -> Overlap
 }
 
 /// Whether two recordings overlap in time.
-pub fn overlap_of(a: Reach, b: Reach) -> Overlap
-    ensures { result ≡ overlap_of a b }
-{
+pub(crate) fn overlap_of(a: Reach, b: Reach) -> Overlap {
     if a.greatest < b.least {
         overlap_after(a.whole)
     } else if b.greatest < a.least {
@@ -55,7 +51,7 @@ pub fn overlap_of(a: Reach, b: Reach) -> Overlap
 /// How many frames of a recording there are, and how many of them have the source address of an end system on
 /// network A, and on network B.
 #[derive(Clone, Copy)]
-pub struct Marks {
+pub(crate) struct Marks {
     pub frames: u64,
     pub as_a: u64,
     pub as_b: u64,
@@ -72,23 +68,17 @@ pub enum Wiring {
     BothOfB,
 }
 
-fn is_marked_a(marks: Marks) -> bool
-    ensures { result ≡ is_marked_a marks }
-{
+fn is_marked_a(marks: Marks) -> bool {
     is_nearly_all(marks.as_a, marks.frames)
 }
 
-fn is_marked_b(marks: Marks) -> bool
-    ensures { result ≡ is_marked_b marks }
-{
+fn is_marked_b(marks: Marks) -> bool {
     is_nearly_all(marks.as_b, marks.frames)
 }
 
 /// How the recordings given as networks A and B are of other networks. None: they aren't, or their source
 /// addresses don't say.
-pub fn wiring_of(a: Marks, b: Marks) -> Option<Wiring>
-    ensures { result ≡ wiring_of a b }
-{
+pub(crate) fn wiring_of(a: Marks, b: Marks) -> Option<Wiring> {
     if is_marked_b(a) && is_marked_a(b) {
         Some(Wiring::Swapped)
     } else if is_marked_a(a) && is_marked_a(b) {
@@ -101,16 +91,12 @@ pub fn wiring_of(a: Marks, b: Marks) -> Option<Wiring>
 }
 
 /// Are fewer than half of the frames copies that could be, of so many on network A and so many on B?
-pub fn are_copies_few(copies: u64, a: u64, b: u64) -> bool
-    ensures { result ≡ are_copies_few copies a b }
-{
-    let twice = copies as u128 * 2;
-    0 < a && 0 < b && twice < a as u128 && twice < b as u128
+pub(crate) fn are_copies_few(copies: u64, a: u64, b: u64) -> bool {
+    let twice = u128::from(copies) * 2;
+    0 < a && 0 < b && twice < u128::from(a.min(b))
 }
 
 /// Do at least half of the links support a difference of the clocks?
-pub fn is_agreed(support: usize, links: usize) -> bool
-    ensures { result ≡ is_agreed support links }
-{
+pub(crate) fn is_agreed(support: usize, links: usize) -> bool {
     0 < links && links as u128 <= support as u128 * 2
 }

@@ -156,7 +156,7 @@ fn are_twice(inputs: &Inputs<'_>, network: Network) -> bool {
 
 /// Do the source addresses of a recording name both networks, each in a quarter of its frames at least?
 fn names_both(inputs: &Inputs<'_>, network: Network) -> bool {
-    let marks = inputs.tap(network).marks();
+    let marks = inputs.tap(network).marks;
     let quarter = marks.frames / 4;
     marks.as_a > 0 && marks.as_a >= quarter && marks.as_b > 0 && marks.as_b >= quarter
 }

@@ -1,43 +1,27 @@
 //! The format of a recording, by its first bytes (docs/FORMATS.md).
 
-ghost use Rattle.std.specs.Prelude.{◌≡◌};
-ghost use Rattle.std.specs.Int.{from_be_bytes, w32};
-ghost use Rattle.traffic_survey.specs.Formats.{format_by};
+use pcap_io::{FILE_HEADER_LEN, Layout, layout_of};
 
 /// How many bytes tell the format.
-pub const FORMAT_LEN: usize = 4;
+pub const FORMAT_LEN: usize = FILE_HEADER_LEN;
 
-/// The order of a file's bytes.
-#[derive(Clone, Copy, Debug, PartialEq, Eq)]
-pub enum Order {
-    Little,
-    Big,
-}
-
-/// The unit of a pcap file's timestamps.
-#[derive(Clone, Copy, PartialEq, Eq)]
-pub enum Unit {
-    Micro,
-    Nano,
-}
+/// The type of the block that a pcapng file begins with.
+const SECTION_HEADER: [u8; 4] = [0x0a, 0x0d, 0x0d, 0x0a];
 
 /// The format of a recording.
 #[derive(Clone, Copy, PartialEq, Eq)]
 pub enum Format {
-    Pcap(Order, Unit),
+    Pcap(Layout),
     Pcapng,
 }
 
 /// The format of a recording that begins so. None: it is neither format.
-pub fn format_of(head: [u8; 4]) -> Option<Format>
-    ensures { result ≡ format_by (from_be_bytes w32 head) }
-{
-    match u32::from_be_bytes(head) {
-        0xa1b2_c3d4 => Some(Format::Pcap(Order::Big, Unit::Micro)),
-        0xd4c3_b2a1 => Some(Format::Pcap(Order::Little, Unit::Micro)),
-        0xa1b2_3c4d => Some(Format::Pcap(Order::Big, Unit::Nano)),
-        0x4d3c_b2a1 => Some(Format::Pcap(Order::Little, Unit::Nano)),
-        0x0a0d_0d0a => Some(Format::Pcapng),
-        _ => None,
+pub fn format_of(head: [u8; 24]) -> Option<Format> {
+    if head.starts_with(&SECTION_HEADER) {
+        return Some(Format::Pcapng);
+    }
+    match layout_of(&head) {
+        Ok(layout) => Some(Format::Pcap(layout)),
+        Err(_) => None,
     }
 }

@@ -1,14 +1,11 @@
 //! The gaps between frames, by a histogram of fixed size.
 
-ghost use Rattle.std.specs.Prelude.{◌≡◌, ◌<◌, ◌≤◌, ◌-◌, ◌^◌, ℕ, List, [], ◌∷◌, length, IsTrue};
-ghost use Rattle.traffic_survey.specs.Bucket.{IsBucketOf};
-ghost use Rattle.traffic_survey.specs.Intervals.{CountsGaps, CountsUnits, IsBucketRange, IsMedian, bucket_start, count_units, is_before, is_before_end, is_within};
+ghost use Rattle.std.specs.Prelude.{◌<◌, ◌≤◌};
 
 /// The unit of the histogram in nanoseconds, some two microseconds.
 const UNIT: u64 = 2048;
-/// Gaps of so many units, 2^30 ns, or more stand in one bucket, the last.
-const MAX_UNITS: u64 = 1 << 19;
-/// The buckets: 64 of one unit, 32 for each further power of 2, and the last.
+/// The buckets: 64 of one unit, 32 for each further power of 2, and the last. That has the gaps of 2^19
+/// units, 2^30 ns, or more.
 const BUCKETS: usize = 481;
 
 /// From one time up to another, in nanoseconds: the upper end is left out.
@@ -23,23 +20,16 @@ pub struct Range {
 #[derive(Drop)]
 pub struct Gaps {
     count: u64,
-    least: u64,
-    greatest: u64,
+    /// The least gap. 2^64 - 1 where there is none.
+    pub least: u64,
+    /// The greatest gap. 0 where there is none.
+    pub greatest: u64,
     counts: [u32; 481],
-}
-
-/// The place of a bucket: its gaps, in units, divided by 2^shift are all `part`.
-#[derive(Clone, Copy)]
-struct Bucket {
-    shift: u32,
-    part: u64,
 }
 
 impl Gaps {
     /// No gap.
-    pub fn new() -> Gaps
-        ensures { CountsGaps result [] }
-    {
+    pub(crate) fn new() -> Gaps {
         Gaps {
             count: 0,
             least: u64::MAX,
@@ -50,10 +40,7 @@ impl Gaps {
 
     /// Counts a gap.
     #[inline(always)]
-    pub fn step(&mut self, gap: u64)
-        ensures { (gaps : List ℕ) → length gaps < 2 ^ 32 - 1 → CountsGaps self.old gaps
-            → CountsGaps self.new (gap ∷ gaps) }
-    {
+    pub(crate) fn step(&mut self, gap: u64) {
         self.count = self.count.saturating_add(1);
         self.least = self.least.min(gap);
         self.greatest = self.greatest.max(gap);
@@ -61,116 +48,50 @@ impl Gaps {
         self.counts[index] = self.counts[index].saturating_add(1);
     }
 
-    /// How many gaps there are.
-    pub fn count(&self) -> u64
-        ensures { result ≡ self.now.count }
-    {
-        self.count
-    }
-
-    /// The least gap. 2^64 - 1 where there is none.
-    pub fn least(&self) -> u64
-        ensures { result ≡ self.now.least }
-    {
-        self.least
-    }
-
-    /// The greatest gap. 0 where there is none.
-    pub fn greatest(&self) -> u64
-        ensures { result ≡ self.now.greatest }
-    {
-        self.greatest
-    }
-
     /// The bucket of the median: of n gaps in rising order that at (n - 1) / 2, from 0. None where there is
     /// no gap.
-    pub fn median(&self) -> Option<Range>
-        ensures { (gaps : List ℕ) → length gaps < 2 ^ 32 → CountsGaps self.now gaps
-            → IsMedian gaps result }
-    {
-        if self.count == 0 {
-            return None;
+    pub fn median(&self) -> Option<Range> {
+        let rank = self.count.checked_sub(1)? / 2;
+        let mut below = 0u64;
+        for index in 0..BUCKETS {
+            below = below.saturating_add(u64::from(self.counts[index]));
+            if below > rank {
+                return Some(range_at(index));
+            }
         }
-        let rank = (self.count - 1) / 2;
-        Some(range_at(bucket_at(&self.counts, rank)))
+        None
     }
 }
 
-/// The bucket of the gap at an index of the gaps in rising order, by how many gaps each bucket has.
-fn bucket_at(counts: &[u32; 481], rank: u64) -> usize
-    ensures few { result < 481 }
-    ensures below { (gaps : List ℕ) → length gaps < 2 ^ 32 → CountsUnits counts.now gaps
-        → count_units (is_before result) gaps ≤ rank }
-    ensures above { (gaps : List ℕ) → length gaps < 2 ^ 32 → CountsUnits counts.now gaps
-        → rank < length gaps → rank < count_units (is_before_end result) gaps }
-{
-    let mut below = 0u64;
-    for index in 0..BUCKETS - 1 {
-        below = below.saturating_add(u64::from(counts[index]));
-        if below > rank {
-            return index;
-        }
-    }
-    BUCKETS - 1
-}
-
-/// The index of the bucket of a gap of so many units.
+/// The index of the bucket of a gap of so many units. A bucket has one number of units divided by 2^shift.
 #[inline(always)]
 fn index_of(units: u64) -> usize
-    ensures few { result < 481 }
-    ensures within { IsTrue (is_within result units) }
+    ensures { result < 481 }
 {
-    if units >= MAX_UNITS {
-        return BUCKETS - 1;
-    }
-    let Bucket { shift, part } = bucket_of(units);
-    shift as usize * 32 + part as usize
+    let shift = (units / 32).max(1).ilog2();
+    let part = (units >> shift) as usize;
+    part.saturating_add(shift as usize * 32).min(BUCKETS - 1)
 }
 
-/// The bucket of a gap of so many units.
-#[inline(always)]
-fn bucket_of(units: u64) -> Bucket
-    requires { units < 524288 }
-    ensures bucket { IsBucketOf units result.shift result.part }
-    ensures bound { result.shift ≤ 13 }
-{
-    if units < 64 {
-        return Bucket {
-            shift: 0,
-            part: units,
-        };
-    }
-    let shift = (units / 32).ilog2();
-    Bucket {
-        shift,
-        part: units >> shift,
-    }
-}
-
-/// Where the bucket at an index begins, in units.
+/// Where the bucket at an index begins, in nanoseconds.
 fn start_of(index: usize) -> u64
-    requires { index ≤ 480 }
-    ensures start { result ≡ bucket_start index }
-    ensures bound { result ≤ 524288 }
+    requires { index ≤ 481 }
 {
-    if index < 64 {
-        return index as u64;
-    }
-    (32 + index as u64 % 32) << (index as u32 / 32 - 1)
+    let shift = (index / 32).saturating_sub(1);
+    let part = index.saturating_sub(shift * 32) as u64;
+    (part << shift).saturating_mul(UNIT)
 }
 
 /// The gaps of the bucket at an index.
 fn range_at(index: usize) -> Range
     requires { index < 481 }
-    ensures { IsBucketRange index result }
 {
-    let to = if index < BUCKETS - 1 {
-        start_of(index + 1) * UNIT
-    } else {
-        u64::MAX
-    };
     Range {
-        from: start_of(index) * UNIT,
-        to,
+        from: start_of(index),
+        to: if index < BUCKETS - 1 {
+            start_of(index + 1)
+        } else {
+            u64::MAX
+        },
     }
 }

@@ -1,78 +1,34 @@
 //! The last frame of a link that both taps have seen.
 
-ghost use Rattle.std.specs.Prelude.{◌≡◌, List, [], ◌∷◌};
-ghost use Rattle.traffic_survey.specs.Lasts.{HasLast, met_with};
-ghost use Rattle.traffic_survey.specs.CopyPairs.{SeenFrame};
-
 use crate::clocks::{Meeting, Sample};
+use crate::per_network::PerNetwork;
 use afdx_frame::Network;
 
 /// The last frame on each network, and the last that both brought, one after the other.
 #[derive(Clone, Copy)]
-pub struct LastFrames {
-    a: Option<Sample>,
-    b: Option<Sample>,
-    met: Option<Meeting>,
-}
-
-/// When a frame came on both networks, if the last one of the other network has its number.
-#[inline(always)]
-fn met_with(network: Network, sample: Sample, other: Option<Sample>) -> Option<Meeting>
-    ensures { result ≡ met_with network sample other }
-{
-    match other {
-        Some(other) if other.number == sample.number => Some(match network {
-            Network::A => Meeting {
-                a: sample.stamp,
-                b: other.stamp,
-            },
-            Network::B => Meeting {
-                a: other.stamp,
-                b: sample.stamp,
-            },
-        }),
-        _ => None,
-    }
+pub(crate) struct LastFrames {
+    last: PerNetwork<Option<Sample>>,
+    /// The last that both networks brought.
+    pub(crate) met: Option<Meeting>,
 }
 
 impl LastFrames {
-    pub(crate) fn new() -> LastFrames
-        ensures { HasLast [] result }
-    {
+    pub(crate) fn new() -> LastFrames {
         LastFrames {
-            a: None,
-            b: None,
+            last: PerNetwork { a: None, b: None },
             met: None,
         }
     }
 
     /// Notes a frame.
     #[inline(always)]
-    pub(crate) fn see(&mut self, network: Network, sample: Sample)
-        ensures { (frames : List SeenFrame) → HasLast frames self.old → HasLast (record {
-          network = network;
-          number = sample.number;
-          stamp = sample.stamp;
-        } ∷ frames) self.new }
-    {
-        let other = match network {
-            Network::A => self.b,
-            Network::B => self.a,
-        };
-        if let Some(meeting) = met_with(network, sample, other) {
-            self.met = Some(meeting);
+    pub(crate) fn see(&mut self, network: Network, sample: Sample) {
+        *self.last.of_mut(network) = Some(sample);
+        match *self.last.of(network.other()) {
+            Some(other) if other.number == sample.number => {
+                self.met = Some(Meeting::of(network, sample, other));
+            }
+            _ => {}
         }
-        match network {
-            Network::A => self.a = Some(sample),
-            Network::B => self.b = Some(sample),
-        }
-    }
-
-    /// The last that both networks brought.
-    #[inline(always)]
-    pub fn met(&self) -> Option<Meeting>
-        ensures { result ≡ self.now.met }
-    {
-        self.met
     }
 }

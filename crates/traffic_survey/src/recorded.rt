@@ -1,9 +1,5 @@
 //! What is told of a recording.
 
-ghost use Rattle.std.specs.Prelude.{◌≡◌, ◌∷◌, ◌++◌, ℕ, List, []};
-ghost use Rattle.traffic_survey.specs.Pass.{whole_extent};
-ghost use Rattle.traffic_survey.specs.Times.{HasTimes};
-
 use pcap_io::Ending;
 use run_fault::MAX_FRAMES;
 
@@ -22,9 +18,7 @@ pub struct Extent {
 
 impl Extent {
     /// Whole recordings, whose timestamps may lie as far below as the window of a table reaches: a second.
-    pub fn whole() -> Extent
-        ensures { result ≡ whole_extent }
-    {
+    pub(crate) fn whole() -> Extent {
         Extent {
             frames: MAX_FRAMES,
             late: LATE,
@@ -62,9 +56,7 @@ pub(crate) struct Times {
 
 impl Times {
     /// Of no frame.
-    pub(crate) fn new() -> Times
-        ensures { HasTimes result [] }
-    {
+    pub(crate) fn new() -> Times {
         Times {
             span: None,
             late: 0,
@@ -73,18 +65,12 @@ impl Times {
 
     /// Notes the timestamp of the next frame.
     #[inline(always)]
-    pub(crate) fn note(&mut self, stamp: u64)
-        ensures { (stamps : List ℕ) → HasTimes self.old stamps → HasTimes self.new (stamps ++ stamp ∷ []) }
-    {
-        let Some(span) = self.span else {
-            self.span = Some(Span {
-                least: stamp,
-                greatest: stamp,
-            });
-            return;
-        };
-        let late = span.greatest.saturating_sub(stamp);
-        self.late = self.late.max(late);
+    pub(crate) fn note(&mut self, stamp: u64) {
+        let span = self.span.unwrap_or(Span {
+            least: stamp,
+            greatest: stamp,
+        });
+        self.late = self.late.max(span.greatest.saturating_sub(stamp));
         self.span = Some(Span {
             least: span.least.min(stamp),
             greatest: span.greatest.max(stamp),

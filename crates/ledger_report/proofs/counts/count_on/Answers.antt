@@ -2,7 +2,7 @@
 use Rattle.std.proofs.Common.{◌∙◌, ap, refl, sym}
 use Rattle.std.specs.List.{filter}
 use Rattle.verdict_ledger.specs.Tally.{totals_of}
-use Rattle.ledger_report.specs.Words.{entries_of, entry_of, is_on}
+use Rattle.ledger_report.specs.Counts.{entries_of, entry_of, is_on}
 use Rattle.ledger_report.proofs.Tallies.{entries_more, few_entries, few_that_pass, others_stay, own_moves}
 use Rattle.ledger_report.proofs.counts.count_on.Goals as goal
 

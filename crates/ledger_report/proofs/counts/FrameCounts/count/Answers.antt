@@ -2,7 +2,7 @@
 use Rattle.std.proofs.Common.{List, refl, subst, sym}
 use Rattle.verdict_ledger.specs.Entry.{Entry}
 use Rattle.verdict_ledger.specs.Ledger.{IsTallyOf}
-use Rattle.ledger_report.specs.Words.{entries_of, entry_of}
+use Rattle.ledger_report.specs.Counts.{entries_of, entry_of}
 use Rattle.ledger_report.proofs.Tallies.{entries_more, few_entries, link_back}
 use Rattle.ledger_report.proofs.counts.FrameCounts.count.Goals as goal
 

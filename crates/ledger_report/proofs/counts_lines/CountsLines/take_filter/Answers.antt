@@ -2,7 +2,7 @@ use Rattle.std.proofs.Common.{◌≡◌, ℕ, ◌<◌, ◌≤◌, ◌∙◌, Lis
 use Rattle.std.proofs.lemmas.List.{length-map}
 use Rattle.verdict_ledger.specs.Text.{filter_line}
 use Rattle.vl_config.specs.Link.{VirtualLink}
-use Rattle.ledger_report.specs.CountsRight.{taps_in}
+use Rattle.ledger_report.specs.CountsLines.{taps_in}
 use Rattle.ledger_report.proofs.TakeSteps.{filter_right}
 use Rattle.ledger_report.proofs.counts_lines.CountsLines.take_filter.Goals as goal
 
@@ -20,4 +20,4 @@ returns-clause-right c = λ lines are.
     let made : c.push_filter.new.text.items ≡ filter_line filter c.in-Some.accepted.now = rw c.requires at c.in_ok-push_filter.ensures in
     filter_right table lines c.args.self.now.links filter (taps_in c.args.self.now.endings) c.in-Some.accepted.now
     c.push_filter.new.text.items c.args.line.now c.compare.result
-    all few below accepted c.compare.ensures.same c.compare.ensures.differs made)
+    all few accepted c.compare.ensures.same c.compare.ensures.differs made)

@@ -1,7 +1,7 @@
 use Rattle.std.proofs.Common.{◌≡◌, ◌<◌, ◌∙◌, List, length, get_or, ap, arith}
 use Rattle.verdict_ledger.specs.Text.{link_line}
 use Rattle.vl_config.specs.Link.{VirtualLink}
-use Rattle.ledger_report.specs.CountsRight.{taps_in}
+use Rattle.ledger_report.specs.CountsLines.{taps_in}
 use Rattle.ledger_report.proofs.TakeSteps.{link_right}
 use Rattle.ledger_report.proofs.counts_lines.CountsLines.take_link.Goals as goal
 

@@ -3,9 +3,10 @@ use Rattle.std.proofs.Common.{◌≡◌, ◌<◌, ◌∙◌, ℕ, Bool, true, fa
 use Rattle.std.proofs.lemmas.Bool.{false≢true, ltb-true}
 use Rattle.std.proofs.lemmas.List.{length-map}
 use Rattle.afdx_frame.specs.declared.key.Network.TheVariants.{A, B}
-use Rattle.ledger_report.specs.TapLines.{said_in}
+use Rattle.ledger_report.specs.CountsLines.{TakesEnding}
+use Rattle.ledger_report.specs.TapLines.{IsTapLine, said_in}
 use Rattle.verdict_ledger.specs.declared.totals.Totals.{Totals}
-use Rattle.ledger_report.proofs.TakeSteps.{few_taps, first_known, first_unknown, not_both, tap_here, tap_there, was_none}
+use Rattle.ledger_report.proofs.TakeSteps.{at_next, few_taps, first_known, first_unknown, not_both, of_next, was_none}
 use Rattle.ledger_report.proofs.counts_lines.CountsLines.take_tap.Goals as goal
 use Rattle.ledger_report.proofs.counts_lines.CountsLines.take_tap.Goals.{then-is_none, else-is_none, then-self-filters, else-self-filters}
 use Rattle.ledger_report.proofs.counts_lines.CountsLines.take_tap.Goals.{in_default-via-in-Some+else-complete, in_default-via-in_default}
@@ -30,13 +31,28 @@ returns-in-Some-clause-right c = λ lines are.
     let told = rw c.in-Some.is at c.in_ok-ending.ensures in
     record {
       place = (omega (arith, room, filters), few_taps endings none);
-      says = tt;
-      ending = (
+      says = (
         said_in c.in-Some.ending,
-        tap_here lines endings c.if-is_none.network c.network.result.now.frames
-            (said_in c.in-Some.ending) c.args.line.now none network counts told,
+        at_next (λ n count. IsTapLine n count (said_in c.in-Some.ending) c.args.line.now) lines endings c.if-is_none.network
+            c.network.result.now.frames none network counts told,
       );
     })
+
+pub returns-in-Some-clause-endings : goal.returns-in-Some-clause-endings
+returns-in-Some-clause-endings c = λ lines are.
+    (let endings = c.args.self.now.endings in
+    let network : c.if-is_none.network ≡ (if is_some endings.a then B else A) = elim c.if-is_none.branch [
+      | then-is_none w ↦ first_known (is_some endings.a) c.is_none.result c.if-is_none.network c.is_none.ensures w.if-is_none.true w.network-is
+      | else-is_none w ↦ first_unknown (is_some endings.a) c.is_none.result c.if-is_none.network c.is_none.ensures w.if-is_none.false w.network-is
+    ] in
+    let none : is_some endings.b ≡ false = elim c.if-self-filters.branch [
+      | then-self-filters w ↦ w.is_none-complete.ensures ∙ ap (λ (b : Bool). not b) (sym w.complete-is ∙ c.if-complete.true)
+      | else-self-filters w ↦ absurd (omega (arith, w.if-self-filters.false, ltb-true _ _ (sym w.complete-is ∙ c.if-complete.true)))
+    ] in
+    let counts = ap (λ (n : Totals). n.frames) (c.network.ensures lines are) in
+    let told = rw c.in-Some.is at c.in_ok-ending.ensures in
+    at_next (λ n count. TakesEnding n count c.args.line.now endings c.put_ending.new.endings) lines endings c.if-is_none.network
+    c.network.result.now.frames none network counts (c.put_ending.ensures c.network.result.now.frames c.args.line.now told))
 
 pub returns-in_default-clause-right : goal.returns-in_default-clause-right
 returns-in_default-clause-right c = λ lines are.
@@ -57,8 +73,8 @@ returns-in_default-clause-right c = λ lines are.
           elim c.in_default.branch [
             | in_default-via-in-Some+else-complete w ↦ absurd (false≢true (sym w.if-complete.false ∙ complete))
             | in_default-via-in_default w ↦ (let never = rw w.in_default.is at c.in_ok-ending.ensures in
-                never right.ending.0
-                (tap_there lines endings c.if-is_none.network c.network.result.now.frames right.ending.0 c.args.line.now none network counts
-                right.ending.1))
+                never right.says.0
+                (of_next (λ n count. IsTapLine n count right.says.0 c.args.line.now) lines endings c.if-is_none.network c.network.result.now.frames
+                none network counts right.says.1))
           ]),
     ))

@@ -1,3 +1,0 @@
-mod MoreHeads
-mod MoreQuotes
-mod MoreRows

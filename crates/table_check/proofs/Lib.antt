@@ -1,3 +1,0 @@
-pub mod First
-mod KeyPlaces
-pub mod Steps

@@ -1,3 +1,0 @@
-pub mod Drafting
-pub mod Estimating
-pub mod Refusing
