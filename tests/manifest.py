@@ -8,12 +8,15 @@ import html
 import json
 import os
 import re
+import shutil
 import subprocess
 import tempfile
 import threading
 
 from analyser import watch
-from harness import EVERY, FAULT, PROGRAM, SUCCESS, USAGE, difference, frame, header, read, record, run, run_at_terminal, say
+from harness import (
+    EVERY, FAULT, PROGRAM, SUCCESS, TOP, USAGE, difference, frame, header, put, read, record, run, run_at_terminal, say, skip,
+)
 from reference import parse
 from texts import FULL, OUTPUT, advice_on
 from watching import TABLE, Desk, notes_on, tap
@@ -158,6 +161,33 @@ def standard_output(desk):
         it = Run(desk, INPUTS, **{option: "-"})
         it.arguments[it.arguments.index(it.target)] = "-"
         say(f"manifest: --{option} is standard output too", difference(it.run(), FAULT, "afdxmon: file --manifest", b""))
+
+
+def verified(folder):
+    """What the guide's command says of the files of a run: those that it calls sound, and its status."""
+    command = re.search(r"\$ (jq -r '\(\.inputs.*?sha256sum -c)", read(TOP, "docs", "GUIDE.md").decode(), re.S)[1]
+    ran = subprocess.run(["bash", "-o", "pipefail", "-c", command], cwd=folder, capture_output=True, text=True)
+    return [line.removesuffix(": OK") for line in ran.stdout.splitlines() if line.endswith(": OK")], ran.returncode
+
+
+def verification(desk):
+    """The guide's command over a manifest takes each file of a run, and refuses one of which a byte was changed."""
+    if not shutil.which("jq"):
+        return skip("manifest: the guide's verification", "jq")
+    names = {"config": TABLE, "a_1": frames(0, 10**6), "a_2": frames(2 * 10**6), "a_3": frames(3 * 10**6), "b": B}
+    for name, data in names.items():
+        put(desk.directory, name, data)
+    arguments = "watch --config config --a a_1 a_2 a_3 --b b --ledger ledger --manifest run.json --digest".split()
+    ran = run(arguments, cwd=desk.directory, stdin=subprocess.DEVNULL)
+    found = verified(desk.directory)
+    say("manifest: verification: several files", "" if ran.returncode == 0 and found == ([*names, "ledger"], 0) else f"{ran.stderr} {found}")
+    for changed in ("a_2", "a_3", "b", "ledger"):
+        before = read(desk.directory, changed)
+        put(desk.directory, changed, before[:-1] + bytes([before[-1] ^ 1]))
+        found = verified(desk.directory)
+        wanted = [name for name in [*names, "ledger"] if name != changed]
+        say(f"manifest: verification: a byte of {changed} was changed", "" if found == (wanted, 1) else f"{found}, not {wanted}")
+        put(desk.directory, changed, before)
 
 
 def pour(path, data):
@@ -467,6 +497,6 @@ def other_files(desk):
 
 
 def cases():
-    for part in (runs, standard_output, pipes, pipes_out, usage, outputs, faults, pages, wrong_manifests, other_files):
+    for part in (runs, verification, standard_output, pipes, pipes_out, usage, outputs, faults, pages, wrong_manifests, other_files):
         with tempfile.TemporaryDirectory() as work:
             part(Desk(work))

@@ -1,0 +1,4 @@
+pub mod Lawful
+pub mod Lists
+pub mod Pairs
+pub mod Stands

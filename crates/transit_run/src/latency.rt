@@ -1,0 +1,90 @@
+//! How long frames took.
+
+use std::alloc::{AllocError, Global};
+use std::collections::BTreeMap;
+
+/// The transits of frames, in nanoseconds. A transit below 0 is that of clocks which are apart.
+#[derive(Drop)]
+pub struct Latency {
+    /// How many there are.
+    pub count: u64,
+    /// Their sum.
+    pub sum: i128,
+    /// The shortest and the longest.
+    pub range: Option<(i64, i64)>,
+    /// How many were longer than the bound.
+    pub over: u64,
+    /// How many were below 0.
+    pub negative: u64,
+    /// How many there are of each length, rounded.
+    bins: BTreeMap<i64, u64>,
+}
+
+impl Latency {
+    /// Of no frame. Allocates nothing.
+    pub fn new(alloc: Global) -> Latency {
+        Latency {
+            count: 0,
+            sum: 0,
+            range: None,
+            over: 0,
+            negative: 0,
+            bins: BTreeMap::new(alloc),
+        }
+    }
+
+    /// Counts a transit.
+    ///
+    /// # Errors
+    ///
+    /// `AllocError` if there is no memory for a length that is met for the first time.
+    pub fn add(&mut self, transit: i64, bound: Option<u64>) -> Result<(), AllocError> {
+        self.count_bin(rounded(transit))?;
+        self.count = self.count.saturating_add(1);
+        self.sum = self.sum.saturating_add(i128::from(transit));
+        self.range = match self.range {
+            Some((least, greatest)) => Some((least.min(transit), greatest.max(transit))),
+            None => Some((transit, transit)),
+        };
+        if transit < 0 {
+            self.negative = self.negative.saturating_add(1);
+        } else if bound.is_some_and(|bound| transit.unsigned_abs() > bound) {
+            self.over = self.over.saturating_add(1);
+        }
+        Ok(())
+    }
+
+    fn count_bin(&mut self, bin: i64) -> Result<(), AllocError> {
+        if let Some(count) = self.bins.get_mut(&bin) {
+            *count = count.saturating_add(1);
+            return Ok(());
+        }
+        self.bins.insert(bin, 1)?;
+        Ok(())
+    }
+
+    /// The length, rounded, that so many of a thousand transits don't exceed. None: there is none.
+    pub fn rank(&self, thousandths: u64) -> Option<i64> {
+        let mut left = u128::from(self.count) * u128::from(thousandths);
+        for (bin, count) in &self.bins {
+            let these = u128::from(*count) * 1000;
+            if left <= these {
+                return Some(*bin);
+            }
+            left -= these;
+        }
+        None
+    }
+}
+
+/// Towards zero, to eight leading binary digits: less than 0.8 % off.
+fn rounded(transit: i64) -> i64 {
+    let size = transit.unsigned_abs();
+    let low = 56_u32.saturating_sub(size.leading_zeros());
+    let size = i64::try_from(size.wrapping_shr(low).wrapping_shl(low)).unwrap_or(i64::MAX);
+    if transit < 0 {
+        0_i64.saturating_sub(size)
+    } else {
+        size
+    }
+}

@@ -1,0 +1,26 @@
+//! What a switch did with the frames that went in: one pass over two recordings, made by one clock at a
+//! port in and at a port out.
+//!
+//! A [`Pass`] is shown the frames of both recordings in the order of their moments, and writes a line for
+//! each frame that went in, and for each that came out and never went in, as soon as what became of it is
+//! certain. Then it has the counts. It holds the frames of twice the window, and no more.
+#![tactic(auto)]
+
+mod facts;
+mod lane;
+mod latency;
+mod line;
+mod options;
+mod order;
+mod outcome;
+mod pass;
+mod policer;
+mod rows;
+mod summary;
+mod tally;
+
+pub use latency::Latency;
+pub use options::Options;
+pub use outcome::{Fate, Origin, Pair, Passage, fate_of, origin_of};
+pub use pass::Pass;
+pub use tally::Tally;
