@@ -2,7 +2,7 @@
 
 use afdx_frame::VlId;
 
-/// What a document specifies of a virtual link, in the units and the ranges of a table. None: it leaves that
+/// A virtual link as a document specifies it, in the units and the ranges of a table. None: it leaves that
 /// out.
 #[derive(Drop)]
 pub struct IcdLink {
@@ -10,6 +10,8 @@ pub struct IcdLink {
     pub id: VlId,
     /// The name: 1 to 32 ASCII letters, digits, `_` and `-`.
     pub name: Option<String>,
+    /// The name as the document writes it, where a table can't hold that.
+    pub original: Option<String>,
     /// The bandwidth allocation gap: 1, 2, 4, 8, 16, 32, 64 or 128 milliseconds.
     pub bag_ms: Option<u64>,
     /// The greatest jitter, in microseconds: at most 100000.

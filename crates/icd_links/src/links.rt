@@ -1,16 +1,16 @@
 //! The links of a document.
 
-use crate::columns::Columns;
-use crate::fault::IcdFault;
+use crate::document::{Document, is_blank};
+use crate::fault::{HeadFault, IcdFault};
+use crate::faults::{IcdFaults, IcdRefusal};
+use crate::given::GivenHeads;
 use crate::link::IcdLink;
-use crate::row::{RowFault, is_blank, read_link};
-use crate::rows::{closed_rows, line_of};
-use afdx_frame::VlId;
+use crate::quotes::stray_quote;
+use crate::row::Reading;
 use csv::StringRecord;
 use std::alloc::Global;
-use vl_config::MAX_LINKS;
 
-/// What a document specifies of virtual links, no two of one identifier or one name.
+/// The virtual links that a document specifies, no two of one identifier or one name.
 #[derive(Drop)]
 pub struct IcdLinks {
     links: Vec<IcdLink>,
@@ -24,63 +24,30 @@ impl IcdLinks {
         }
     }
 
-    /// Reads a document, or returns its first fault.
+    /// Reads a document, or returns its faults.
     ///
     /// # Errors
     ///
-    /// Of a quote that isn't closed or that text follows, wherever it stands; then of a row of another length
-    /// than the first; then of the heads; then row by row of the first cell that has none of its column's
-    /// values, of an identifier and of a name that an earlier row has, and of the row after the first
-    /// [`MAX_LINKS`]. `Memory` if there is none.
-    pub fn read(alloc: Global, text: &str) -> Result<IcdLinks, IcdFault> {
-        let rows = closed_rows(alloc, text)?;
-        let Some((heads, rows)) = rows.split_first() else {
-            return Err(IcdFault::Head { line: 1 });
+    /// The first fault is of a quote that isn't closed or that text follows, wherever it stands; of it
+    /// nothing else is known. Then come rows of another length than the heads, whose cells aren't read; then
+    /// the heads; then row by row each cell that has none of its column's values, an identifier and a name
+    /// that an earlier row has, and the row after the first [`vl_config::MAX_LINKS`] links, the last that is
+    /// read.
+    /// `Memory` if there is none.
+    pub fn read(alloc: Global, text: &str, given: &GivenHeads<'_>) -> Result<IcdLinks, IcdRefusal> {
+        let document = Document::of(text);
+        if let Some(at) = stray_quote(document.text.as_bytes(), document.separator) {
+            let line = document.line_at(at as u64);
+            return Err(refusal_of(alloc, IcdFault::Quote { line }));
+        }
+        let Ok(rows) = document.rows(alloc) else {
+            return Err(IcdRefusal::Memory);
         };
-        let Ok(columns) = Columns::of(heads) else {
-            return Err(IcdFault::Head {
-                line: line_of(text, heads),
-            });
+        let Some(heads) = rows.iter().position(|row| !is_blank(row)) else {
+            let wrong = HeadFault::NoId;
+            return Err(refusal_of(alloc, IcdFault::Head { line: 1, wrong }));
         };
-        let mut links = take_rows(alloc, text, &columns, rows)?;
-        links.links.sort_by_key(|link| link.id.0)?;
-        Ok(links)
-    }
-
-    /// Takes the link of one more row.
-    fn take_row(
-        &mut self,
-        alloc: Global,
-        columns: &Columns,
-        row: &StringRecord,
-    ) -> Result<(), RowFault> {
-        if is_blank(columns, row) {
-            return Ok(());
-        }
-        let link = read_link(alloc, columns, row)?;
-        if self.has_id(link.id) {
-            return Err(RowFault::TwiceId);
-        }
-        if self.has_name(&link) {
-            return Err(RowFault::TwiceName);
-        }
-        if self.links.len() >= MAX_LINKS {
-            return Err(RowFault::TooMany);
-        }
-        self.links.push(link)?;
-        Ok(())
-    }
-
-    fn has_id(&self, id: VlId) -> bool {
-        self.links.iter().any(|link| link.id == id)
-    }
-
-    /// Has a link the name of this one, where it has any?
-    fn has_name(&self, of: &IcdLink) -> bool {
-        match &of.name {
-            Some(name) => self.links.iter().any(|link| is_named(link, name.as_str())),
-            None => false,
-        }
+        read_rows(alloc, document, &rows, heads, given)
     }
 
     /// The links by rising identifier.
@@ -89,25 +56,44 @@ impl IcdLinks {
     }
 }
 
-/// The links of the rows, in their order.
-fn take_rows(
-    alloc: Global,
-    text: &str,
-    columns: &Columns,
-    rows: &[StringRecord],
-) -> Result<IcdLinks, IcdFault> {
-    let mut links = IcdLinks::new(alloc);
-    for row in rows {
-        if let Err(wrong) = links.take_row(alloc, columns, row) {
-            return Err(wrong.at(line_of(text, row)));
-        }
+/// A document is refused with this one fault.
+fn refusal_of(alloc: Global, fault: IcdFault) -> IcdRefusal {
+    let mut faults = IcdFaults::new(alloc);
+    match faults.list(fault, None) {
+        Ok(()) => IcdRefusal::Faults(faults),
+        Err(_) => IcdRefusal::Memory,
     }
-    Ok(links)
 }
 
-fn is_named(link: &IcdLink, name: &str) -> bool {
-    match &link.name {
-        Some(own) => own.as_str() == name,
-        None => false,
+/// The links of rows of which that of this index has the heads.
+fn read_rows(
+    alloc: Global,
+    document: Document<'_>,
+    rows: &[StringRecord],
+    heads: usize,
+    given: &GivenHeads<'_>,
+) -> Result<IcdLinks, IcdRefusal> {
+    let Some((first, rows)) = rows.get(heads..).and_then(|rows| rows.split_first()) else {
+        return Err(IcdRefusal::Memory);
+    };
+    let mut reading = Reading::new(alloc, document, first, given)?;
+    for row in rows {
+        reading.check_length(row)?;
     }
+    reading.check_heads(given)?;
+    for row in rows {
+        if reading.is_aligned(row) && !reading.read_row(row)? {
+            break;
+        }
+    }
+    let Reading {
+        mut links,
+        faults,
+        ..
+    } = reading;
+    if !faults.is_empty() {
+        return Err(IcdRefusal::Faults(faults));
+    }
+    links.sort_by_key(|link| link.id.0)?;
+    Ok(IcdLinks { links })
 }
