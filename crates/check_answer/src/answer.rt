@@ -17,20 +17,24 @@ pub struct FilterAnswer {
 /// A recording that was read.
 #[derive(Clone, Copy)]
 pub struct TapAnswer<'a> {
-    /// What a person knows it by.
+    /// The name for a person.
     pub name: &'a str,
     pub format: Option<Format>,
     pub recorded: Recorded,
+    /// How many per cent of its bytes were read, if its files' lengths are known.
+    pub percent: Option<u64>,
     /// By how much the frame is out of order that ends it, if one does.
     pub disorder: Option<Disorder>,
     /// How many packets aren't of Ethernet.
     pub skipped: u64,
+    /// How many packets its recorder says that it dropped.
+    pub dropped: u64,
 }
 
-/// What was found of all inputs.
+/// The answer on all inputs.
 #[derive(Clone, Copy)]
 pub struct Answer<'a> {
-    /// What a person knows the table by.
+    /// The name of the table for a person.
     pub table: &'a str,
     /// The table's text.
     pub text: &'a str,

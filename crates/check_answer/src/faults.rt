@@ -44,7 +44,7 @@ fn name_of(alloc: Global, link: Option<&Table>) -> Result<Option<String>, AllocE
     }
 }
 
-/// What a fault is about.
+/// The key that a fault is about.
 fn faulty_key(fault: &TableFault) -> Option<FaultyKey<'_>> {
     match fault.key {
         Some(key) => Some(FaultyKey::Known(key)),

@@ -3,7 +3,7 @@
 use crate::answer::{Answer, FilterAnswer, TapAnswer};
 use crate::faults::{ToldFault, told_faults};
 use crate::verdict::verdict_of;
-use crate::words::{Asked, Utc, format_words, question_word};
+use crate::words::{QuestionText, Utc, format_words, question_word};
 use afdx_frame::{Network, VlId};
 use command_line::{Fault, reason_words};
 use pcap_io::Ending;
@@ -49,6 +49,7 @@ struct JsonTap<'a> {
     format: &'static str,
     frames: u64,
     whole: bool,
+    percent: Option<u64>,
     end: &'static str,
     reason: Option<&'static str>,
     first: Option<String>,
@@ -56,6 +57,7 @@ struct JsonTap<'a> {
     first_utc: Option<String>,
     last_utc: Option<String>,
     not_ethernet: u64,
+    dropped: u64,
 }
 
 #[derive(Drop, Serialize)]
@@ -146,6 +148,11 @@ fn tap_of<'a>(alloc: Global, tap: &TapAnswer<'a>) -> Result<JsonTap<'a>, AllocEr
         format: format_words(tap.format),
         frames: recorded.ending.frames(),
         whole: recorded.whole,
+        percent: if recorded.whole {
+            Some(100)
+        } else {
+            tap.percent
+        },
         end: recorded.ending.word(),
         reason: match recorded.ending {
             Ending::Bad(_, reason) => Some(reason_words(reason)),
@@ -156,6 +163,7 @@ fn tap_of<'a>(alloc: Global, tap: &TapAnswer<'a>) -> Result<JsonTap<'a>, AllocEr
         first_utc: None,
         last_utc: None,
         not_ethernet: tap.skipped,
+        dropped: tap.dropped,
     };
     if let Some(span) = recorded.span {
         json.first = Some(decimal(alloc, span.least)?);
@@ -192,7 +200,7 @@ fn questions_of(alloc: Global, questions: &[Question]) -> Result<Vec<JsonQuestio
     let mut list = Vec::new(alloc);
     for question in questions {
         let mut text = String::new(alloc);
-        let asked = Asked(question);
+        let asked = QuestionText(question);
         write!(text, "{asked}")?;
         list.push(JsonQuestion {
             question: question_word(question),

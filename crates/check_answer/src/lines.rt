@@ -4,7 +4,7 @@ use crate::words::Counted;
 use afdx_frame::{Network, VlId};
 use std::alloc::AllocError;
 use std::fmt::Write;
-use traffic_survey::Inputs;
+use traffic_survey::{Inputs, Kind};
 
 /// How many links a line names at most.
 const MAX_NAMED: u64 = 20;
@@ -84,4 +84,53 @@ pub fn push_unlisted(out: &mut String, inputs: &Inputs<'_>) -> Result<(), AllocE
         }
     }
     push_more(out, count)
+}
+
+/// The protocol of an EtherType. None: it is told as a number.
+fn kind_word(ethertype: u16) -> Option<&'static str> {
+    match ethertype {
+        0 => Some("without an EtherType"),
+        0x0800 => Some("IPv4"),
+        0x0806 => Some("ARP"),
+        0x8100 => Some("802.1Q"),
+        0x86dd => Some("IPv6"),
+        0x88cc => Some("LLDP"),
+        0x88f7 => Some("PTP"),
+        _ => None,
+    }
+}
+
+fn push_kind(out: &mut String, kind: Kind) -> Result<(), AllocError> {
+    let Kind { ethertype, frames } = kind;
+    match kind_word(ethertype) {
+        Some(word) => write!(out, " {frames} {word}"),
+        None => write!(out, " {frames} of EtherType 0x{ethertype:04x}"),
+    }
+}
+
+/// A note of the foreign frames, by what they carry.
+pub fn push_foreign(out: &mut String, inputs: &Inputs<'_>) -> Result<(), AllocError> {
+    let Some(kinds) = inputs.kinds() else {
+        return Ok(());
+    };
+    let others = kinds.others();
+    let count = kinds
+        .kinds()
+        .iter()
+        .fold(others, |sum: u64, kind| sum.saturating_add(kind.frames));
+    if count == 0 {
+        return Ok(());
+    }
+    let frames = Counted(count, "frame");
+    write!(out, "note: foreign traffic, {frames}:")?;
+    for (index, kind) in kinds.kinds().iter().enumerate() {
+        if index > 0 {
+            out.push_str(",")?;
+        }
+        push_kind(out, *kind)?;
+    }
+    if others > 0 {
+        write!(out, " and {others} more")?;
+    }
+    out.push_str("\n")
 }

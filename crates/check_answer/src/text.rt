@@ -2,9 +2,9 @@
 
 use crate::answer::{Answer, FilterAnswer, TapAnswer};
 use crate::faults::{ToldFault, told_faults};
-use crate::lines::{push_absent, push_unlisted};
+use crate::lines::{push_absent, push_foreign, push_unlisted};
 use crate::verdict::verdict_of;
-use crate::words::{Asked, Counted, Utc, format_words};
+use crate::words::{Counted, QuestionText, Utc, format_words};
 use command_line::{Fault, Shown, reason_words};
 use pcap_io::Ending;
 use std::alloc::{AllocError, Global};
@@ -146,13 +146,31 @@ fn push_taps(out: &mut String, alloc: Global, answer: &Answer<'_>) -> Result<(),
     }
 }
 
-/// What part of the recordings was read, where that isn't all of them.
+/// A note of the packets that the recorder of each network says that it dropped.
+fn push_dropped(out: &mut String, answer: &Answer<'_>) -> Result<(), AllocError> {
+    for (network, tap) in [("A", answer.a), ("B", answer.b)] {
+        let dropped = tap.map_or(0, |tap| tap.dropped);
+        if dropped > 0 {
+            let packets = Counted(dropped, "packet");
+            writeln!(
+                out,
+                "note: the recorder of network {network} dropped {packets}"
+            )?;
+        }
+    }
+    Ok(())
+}
+
+/// Writes the part of the recordings that was read, where that isn't all of them.
 fn push_extent(out: &mut String, answer: &Answer<'_>) -> Result<(), AllocError> {
     for (network, tap) in [("A", answer.a), ("B", answer.b)] {
         if let Some(tap) = tap {
             if !tap.recorded.whole {
                 let frames = Counted(tap.recorded.ending.frames(), "frame");
                 write!(out, "; of {network} by its first {frames}")?;
+                if let Some(percent) = tap.percent {
+                    write!(out, " ({percent} %)")?;
+                }
             }
         }
     }
@@ -173,12 +191,14 @@ pub fn text_of(alloc: Global, answer: &Answer<'_>) -> Result<String, AllocError>
     }
     push_taps(&mut out, alloc, answer)?;
     for question in answer.questions {
-        let asked = Asked(question);
+        let asked = QuestionText(question);
         writeln!(out, "question: {asked}")?;
     }
     if answer.a.is_some() || answer.b.is_some() {
         push_absent(&mut out, answer.inputs)?;
         push_unlisted(&mut out, answer.inputs)?;
+        push_foreign(&mut out, answer.inputs)?;
+        push_dropped(&mut out, answer)?;
     }
     let verdict = verdict_of(answer);
     if verdict.is_sound() {

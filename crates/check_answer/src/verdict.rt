@@ -30,7 +30,7 @@ pub fn ends_bad(tap: Option<TapAnswer<'_>>) -> bool {
     }
 }
 
-/// What all that was found comes to.
+/// The verdict of all that was found.
 pub fn verdict_of(answer: &Answer<'_>) -> Verdict {
     let mut faults = answer.faults.len();
     for filter in answer.filters {

@@ -5,7 +5,7 @@ use jiff::Timestamp;
 use pcap_io::{ByteOrder, Precision};
 use std::fmt;
 use std::fmt::{Display, Formatter};
-use traffic_survey::{Constant, Difference, Drift, Format, Question, Wiring};
+use traffic_survey::{Constant, Crossing, Difference, Drift, Format, Question, Wiring};
 use vl_config::ConfigFault;
 
 /// The name of a fault of the table, as its line has it.
@@ -88,6 +88,14 @@ pub fn question_word(question: &Question) -> &'static str {
         Question::Constant { .. } => "constant",
         Question::CheckSequence(Network::A) => "check_sequence_a",
         Question::CheckSequence(Network::B) => "check_sequence_b",
+        Question::Tagged {
+            network: Network::A,
+            ..
+        } => "tagged_a",
+        Question::Tagged {
+            network: Network::B,
+            ..
+        } => "tagged_b",
         Question::TooLong { .. } => "too_long",
         Question::OtherTable { .. } => "other_table",
         Question::Cut {
@@ -106,6 +114,10 @@ pub fn question_word(question: &Question) -> &'static str {
             network: Network::B,
             ..
         } => "twice_b",
+        Question::Crossed(crossing) => match crossing.network {
+            Network::A => "crossed_a",
+            Network::B => "crossed_b",
+        },
         Question::Drift(_) => "drift",
         Question::Clocks(_) => "clocks",
     }
@@ -128,6 +140,9 @@ const CONSTANT: &str = "is the table's 'constant' that of this network? Not that
 
 const TAKE_THEM_OFF: &str = "\
 hold frame check sequences? editcap -F nsecpcap -L -C -4 in.pcap out.pcap takes them off";
+
+const TAGS: &str = "\
+of them have one, as some taps add it. editcap -F nsecpcap -L -C 12:4 in.pcap out.pcap takes them off";
 
 const SMAX: &str = "does 'smax' count a frame without its check sequence?";
 
@@ -155,7 +170,7 @@ are the clocks of the taps apart? Under half of the frames have a copy within Sk
 
 /// A question in words.
 #[derive(Clone, Copy)]
-pub struct Asked<'a>(pub &'a Question);
+pub struct QuestionText<'a>(pub &'a Question);
 
 /// The constant field that most frames have, after the question.
 #[derive(Clone, Copy)]
@@ -213,7 +228,30 @@ impl Display for DriftPart {
     }
 }
 
-/// What a network's recorder does: it cuts frames, or records them twice.
+/// Which frames of a network are of the other one, as a question.
+#[derive(Clone, Copy)]
+struct CrossedPart(Crossing);
+
+impl Display for CrossedPart {
+    fn fmt<W: fmt::Write>(&self, f: &mut Formatter<W>) -> fmt::Result {
+        let crossing = self.0;
+        let (on, other) = (crossing.network.letter(), crossing.network.other().letter());
+        let (frames, of, link) = (crossing.frames, crossing.of, crossing.link.0);
+        let (from, to) = (Utc(crossing.first.0), Utc(crossing.last.0));
+        write!(
+            f,
+            "were cables of network {on} swapped? {frames} of {of} frames there have source addresses of \
+             network {other}, of link {link}"
+        )?;
+        if crossing.links > 1 {
+            let more = crossing.links.saturating_sub(1);
+            write!(f, " and {more} more")?;
+        }
+        write!(f, ", from {from} to {to}")
+    }
+}
+
+/// The words on a network's recorder or tap: it cuts frames, tags them, or records them twice.
 #[derive(Clone, Copy)]
 struct RecorderPart<'a>(&'a Question);
 
@@ -232,6 +270,17 @@ impl Display for RecorderPart<'_> {
                     "does the recorder of network {network} {CUT} {snaplen} bytes? {frames} of {of} {WHOLE}"
                 )
             }
+            Question::Tagged {
+                network,
+                frames,
+                of,
+            } => {
+                let network = network.letter();
+                write!(
+                    f,
+                    "do the frames of network {network} have 802.1Q tags? {frames} of {of} {TAGS}"
+                )
+            }
             Question::Twice { network, mixed } => {
                 let network = network.letter();
                 let advice = if mixed { SPLIT } else { ONCE };
@@ -242,7 +291,7 @@ impl Display for RecorderPart<'_> {
     }
 }
 
-impl Display for Asked<'_> {
+impl Display for QuestionText<'_> {
     fn fmt<W: fmt::Write>(&self, f: &mut Formatter<W>) -> fmt::Result {
         match *self.0 {
             Question::Empty(network) => {
@@ -271,7 +320,11 @@ impl Display for Asked<'_> {
                     "{OTHER_TABLE} {frames} of {of} frames are of links that it lacks"
                 )
             }
-            Question::Cut { .. } | Question::Twice { .. } => {
+            Question::Crossed(crossing) => {
+                let part = CrossedPart(crossing);
+                write!(f, "{part}")
+            }
+            Question::Cut { .. } | Question::Twice { .. } | Question::Tagged { .. } => {
                 let part = RecorderPart(self.0);
                 write!(f, "{part}")
             }

@@ -7,6 +7,9 @@ use std::alloc::AllocError;
 use std::fmt;
 use std::fmt::{Display, Formatter};
 
+/// How many characters of a text a comment has.
+const MAX_COMMENTED: usize = 200;
+
 /// How many links were seen otherwise than they are specified.
 #[derive(Clone, Copy, PartialEq, Eq)]
 pub struct Comparison {
@@ -57,6 +60,28 @@ impl Display for Comparison {
     }
 }
 
+/// A text of a document, as a comment of TOML may have it: the first 200 characters, of which the controls
+/// stand escaped, and `..` for further ones.
+#[derive(Clone, Copy)]
+struct Commented<'a>(&'a str);
+
+impl Display for Commented<'_> {
+    fn fmt<W: fmt::Write>(&self, f: &mut Formatter<W>) -> fmt::Result {
+        for (count, character) in self.0.chars().enumerate() {
+            if count == MAX_COMMENTED {
+                return f.write_str("..");
+            }
+            if character.is_control() {
+                let code = u32::from(character);
+                write!(f, "\\u{{{code:x}}}")?;
+            } else {
+                f.write_char(character)?;
+            }
+        }
+        Ok(())
+    }
+}
+
 /// Says how the frames of a link, which the draft has with this BAG, stand to what is specified of it, and
 /// counts it.
 pub fn write_beside(
@@ -69,6 +94,10 @@ pub fn write_beside(
     let Some(specified) = link.specified else {
         return Ok(());
     };
+    if let Some(original) = &specified.original {
+        let shown = Commented(original);
+        write!(text, "# Its name in the ICD: \"{shown}\".\n")?;
+    }
     if link.seen.is_none() && recordings.is_any() {
         comparison.unseen = comparison.unseen.saturating_add(1);
         text.push_str("# No frame was seen.\n")?;

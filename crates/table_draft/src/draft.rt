@@ -22,17 +22,17 @@ use vl_config::{Config, ConfigFault};
 /// administered (IEEE 802.3), and nothing else.
 const USUAL_CONSTANT: u32 = 0x0300_0000;
 
-/// What a draft is made of.
+/// The sources of a draft.
 #[derive(Clone, Copy)]
 pub struct Sources<'a> {
-    /// What was seen.
+    /// The frames as they were seen.
     pub survey: &'a Survey,
     /// The links of frames that weren't recorded whole.
     pub cut: &'a CutLinks,
     pub recordings: Recordings,
     /// The constant field that was asked for.
     pub constant: Option<u32>,
-    /// What is specified.
+    /// The links as they are specified.
     pub icd: Option<&'a IcdLinks>,
 }
 
@@ -111,7 +111,7 @@ fn written(alloc: Global, sources: &Sources<'_>) -> Result<Draft, AllocError> {
     Ok(draft)
 }
 
-/// What the draft is, and how the recordings were read.
+/// Writes the draft's head: its title, and how the recordings were read.
 fn write_head(text: &mut String, sources: &Sources<'_>) -> Result<(), AllocError> {
     match sources.icd {
         Some(_) => text.push_str(ICD_HEADER)?,
@@ -206,7 +206,7 @@ fn write_links(
     Ok(())
 }
 
-/// What is known of a link: what the document's next link specifies, if it is this one, and what was seen.
+/// The knowledge of a link: the document's next link, if it is this one, and the frames that were seen.
 fn known_of<'a>(
     icd: Option<&'a IcdLinks>,
     next: usize,

@@ -11,7 +11,7 @@ pub const MAX_JITTER_US: u64 = 100_000;
 /// The greatest SkewMax of a table, in microseconds.
 const MAX_SKEW_US: u64 = 1_000_000;
 
-/// What a draft says of a link, in the units of a table.
+/// The values of a link in a draft, in the units of a table.
 #[derive(Clone, Copy)]
 pub struct Estimate {
     pub bag_ms: u64,
@@ -23,7 +23,7 @@ pub struct Estimate {
 }
 
 impl Estimate {
-    /// What a draft has of a link of which no frame was seen and nothing specified.
+    /// The values in a draft of a link of which no frame was seen and nothing specified.
     pub const UNKNOWN: Estimate = Estimate {
         bag_ms: 128,
         jitter_us: 0,

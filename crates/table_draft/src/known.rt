@@ -22,7 +22,7 @@ pub struct Drafted {
     pub values: Estimate,
 }
 
-/// What recordings say of a link's values. None: they don't say.
+/// The values of a link by recordings. None: they don't say.
 #[derive(Clone, Copy)]
 pub struct Seen {
     pub bag_ms: Option<u64>,
@@ -70,8 +70,8 @@ impl Known<'_> {
         }
     }
 
-    /// What the draft has: of each key what is specified, and otherwise what was seen. The jitter that was
-    /// seen is that which the frames need at the draft's BAG.
+    /// The values in the draft: of each key the one that is specified, and otherwise the one that was seen.
+    /// The jitter that was seen is that which the frames need at the draft's BAG.
     fn values(&self) -> Estimate {
         let Some(specified) = self.specified else {
             return self.estimate_at(None);
@@ -92,7 +92,7 @@ impl Known<'_> {
         }
     }
 
-    /// What the frames say of a link that the draft has with this BAG. Where one network alone is recorded
+    /// The values of a link by its frames, at the draft's BAG. Where one network alone is recorded
     /// they don't say whether the other brings the link too.
     pub fn seen_beside(&self, bag_ms: u64, both: bool) -> Seen {
         let Some(link) = self.seen else {

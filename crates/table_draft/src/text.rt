@@ -180,7 +180,7 @@ pub fn write_keys(text: &mut String, drafted: &Drafted) -> Result<(), AllocError
     write!(text, "skew_us = {skew_us}\n")
 }
 
-/// What was seen of a link on a network.
+/// Writes the arrivals of a link on a network.
 fn write_arrivals(text: &mut String, network: &str, arrivals: &Arrivals) -> Result<(), AllocError> {
     let frames = match arrivals.frames {
         0 => return write!(text, "# {network}: no frame.\n"),
@@ -205,7 +205,7 @@ fn write_arrivals(text: &mut String, network: &str, arrivals: &Arrivals) -> Resu
     )
 }
 
-/// What jitter the frames of a network need.
+/// Writes the jitter that the frames of a network need.
 fn write_need(
     text: &mut String,
     network: &str,

@@ -10,7 +10,7 @@ use std::{io, mem};
 /// How many bytes are handed to the system at once.
 pub const BLOCK: usize = 65536;
 
-/// What hands an output its bytes in blocks, which are counted, and hashed if that is asked for.
+/// The writer that hands an output its bytes in blocks, which are counted, and hashed if that is asked for.
 type BlockWriter = BufWriter<Digesting<OutputStream>>;
 
 /// An output that is written in blocks, by one thread.

@@ -4,7 +4,7 @@ use pcap_io::{BadReason, Ending};
 use std::fmt;
 use std::fmt::{Display, Formatter};
 
-/// What takes a frame that is out of order.
+/// The ways to take a frame that is out of order.
 #[derive(Clone, Copy)]
 enum Taken {
     By(u64),
@@ -12,7 +12,12 @@ enum Taken {
     ByTable(u64),
     InAnyOrder,
     ByNone,
+    /// It isn't said what does: that isn't a packet's time.
+    NoTime,
 }
+
+/// A day, in nanoseconds. No recorder's clock is set back so far on a flight.
+const DAY: u64 = 86_400_000_000_000;
 
 /// By how many nanoseconds a frame is out of order, after the note that says so.
 #[derive(Clone, Copy)]
@@ -32,10 +37,11 @@ impl Disorder {
     }
 }
 
-/// What takes a frame so late in a command.
+/// The way to take a frame so late in a command.
 fn taken_by(command: Invocation<'_>, late: u64) -> Taken {
     let micros = late.div_ceil(1000);
     match command {
+        _ if late >= DAY => Taken::NoTime,
         Invocation::Capture(_) | Invocation::Debug(_) | Invocation::Watch(_)
             if micros <= MAX_LATE_MICROS => { Taken::By(micros) }
         Invocation::Capture(_) | Invocation::Debug(_) => Taken::InAnyOrder,
@@ -66,6 +72,10 @@ impl Display for Amount {
     }
 }
 
+/// The likely content of a file where a packet comes a day before another, after the words that say so.
+const NO_TIME: &str = "\
+by more than a day: zeros or noise stand in the file there (a bad sector, a hole), or a clock was reset";
+
 impl Display for Disorder {
     fn fmt<W: fmt::Write>(&self, f: &mut Formatter<W>) -> fmt::Result {
         let amount = Amount(self.late);
@@ -76,6 +86,7 @@ impl Display for Disorder {
             }
             Taken::InAnyOrder => write!(f, " by {amount} (--late-us any takes it)"),
             Taken::ByNone => write!(f, " by {amount}"),
+            Taken::NoTime => write!(f, " {NO_TIME}"),
         }
     }
 }

@@ -89,10 +89,10 @@ fn note(rt: &HostRuntime, network: Option<Network>, packets: u64) -> io::Result<
 
 /// How many bytes at the start of a file are looked at for packets of several interfaces, before its outputs
 /// are begun.
-const LOOKED_AT: u64 = 1 << 20;
+pub const LOOKED_AT: u64 = 1 << 20;
 
 /// Does a file begin as pcapng does?
-fn is_pcapng(rt: &HostRuntime, path: &str) -> io::Result<bool> {
+pub fn is_pcapng(rt: &HostRuntime, path: &str) -> io::Result<bool> {
     let mut first = [0; 4];
     File::open(rt, path)?.read_exact(&mut first)?;
     Ok(read_u32(ByteOrder::Big, &first) == SECTION_HEADER)

@@ -12,6 +12,7 @@
 mod blocks;
 mod described;
 mod disorder;
+mod drops;
 mod interface;
 mod limits;
 mod opening;

@@ -7,7 +7,7 @@ use std::{fs, io};
 /// Where Linux lists the limits of the process that reads it (proc(5)). Where no /proc is, no limit is known.
 const LIMITS: &str = "/proc/self/limits";
 
-/// What the line of this limit begins with. Its soft limit follows, in bytes.
+/// The beginning of the line of this limit. Its soft limit follows, in bytes.
 const FILE_SIZE: &str = "Max file size";
 
 /// The system's error for a file that is too long.

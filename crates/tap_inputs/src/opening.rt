@@ -37,7 +37,7 @@ pub fn open_tap(
     opened
 }
 
-/// What reads a recording of either format as pcap.
+/// The reader of a recording of either format, as pcap.
 pub fn recording_of<S: TapSource + Drop>(
     rt: &HostRuntime,
     source: S,

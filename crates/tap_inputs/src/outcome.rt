@@ -15,7 +15,7 @@ pub const MAX_TEXT: usize = 16_777_216;
 /// Why a file can't be opened, read or written.
 #[derive(Clone, Copy)]
 pub enum Cause {
-    /// What the system says.
+    /// An error of the system.
     System(io::Error),
     /// A text that has so many bytes.
     TooLong(u64),
@@ -45,14 +45,14 @@ impl Display for Cause {
     }
 }
 
-/// What a fault is about, beside the file of its option.
+/// The subject of a fault, beside the file of its option.
 #[derive(Drop)]
 pub enum Detail {
     /// The filter's source in which it lies.
     Source(String),
-    /// The interfaces of a recording's file, or its files by time.
+    /// The interfaces of a recording's file, its files by time, or the faults of a document.
     Listed(String),
-    /// What is wrong with a standard stream or a pipe.
+    /// The fault of a standard stream or a pipe.
     Stream(String),
     /// How a line of a ledger and the table differ on a link.
     Disputed(String),

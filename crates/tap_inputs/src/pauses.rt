@@ -20,7 +20,7 @@ const IDLE: u64 = 1000;
 /// How many milliseconds lie between two looks.
 const PERIOD: u64 = 100;
 
-/// What is done with a recording.
+/// The use that is made of a recording.
 #[derive(Clone, Copy, PartialEq, Eq)]
 enum Doing {
     /// Nothing, since so many milliseconds after the start.

@@ -15,7 +15,7 @@ use traffic_survey::{FORMAT_LEN, Format, format_of};
 /// How many milliseconds the line stands at least, and after how many it comes first.
 const PERIOD: u64 = 500;
 
-/// What takes the line off the terminal: more blanks than it ever has characters.
+/// The blanks that take the line off the terminal: more than it ever has characters.
 pub const ERASE: &str =
     "\r                                                                            \r";
 
@@ -112,7 +112,7 @@ impl Progress {
         of_a.saturating_add(self.b.bytes.load(Ordering::Relaxed))
     }
 
-    /// What the line says so many milliseconds after the start.
+    /// The line so many milliseconds after the start.
     fn line(&self, now: u64) -> ProgressLine {
         let (count, unit) = match self.frames.load(Ordering::Relaxed) {
             0 => (self.bytes(), "bytes"),

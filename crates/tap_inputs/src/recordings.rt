@@ -52,7 +52,7 @@ type FileSource<'p> = RecordingSource<ReadSource<Recording<'p>>>;
 pub struct FileList<'p> {
     reading: Reading<'p>,
     tap: &'p Tap,
-    /// What is handed over before a file is read that may pause.
+    /// The output that is handed over before a file is read that may pause.
     output: Option<SharedBlocks>,
     /// The first file, until it is its turn.
     first: Option<Input>,
@@ -60,7 +60,7 @@ pub struct FileList<'p> {
     begun: usize,
     /// How often one couldn't be opened.
     failures: u64,
-    /// What is known of those that were read.
+    /// The knowledge of those that were read.
     ended: TapEnd,
 }
 
@@ -141,7 +141,7 @@ impl<'p> FileSupply<FileSource<'p>> for FileList<'p> {
 /// A recording as it is read.
 pub type TapFiles<'p> = RecordingFiles<FileList<'p>, FileSource<'p>>;
 
-/// What is known of a recording that was read.
+/// The knowledge of a recording that was read.
 #[derive(Drop)]
 pub struct TapEnd {
     /// How many packets that are not of Ethernet were skipped.
@@ -228,7 +228,7 @@ pub fn files_of<'p>(
     Ok(RecordingFiles::Several(JoinedSource::new(rt.alloc(), files)))
 }
 
-/// What is known of a recording now that it was read.
+/// The knowledge of a recording now that it was read.
 pub fn end_of(rt: &HostRuntime, files: TapFiles<'_>) -> TapEnd {
     let (mut ended, last) = match files {
         RecordingFiles::One(file) => (TapEnd::new(rt), Some(file)),

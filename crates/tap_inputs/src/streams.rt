@@ -10,7 +10,7 @@ const EMPTY_RECORDING: [u8; 24] = [
     0x4d, 0x3c, 0xb2, 0xa1, 2, 0, 4, 0, 0, 0, 0, 0, 0, 0, 0, 0, 0, 0, 4, 0, 1, 0, 0, 0,
 ];
 
-/// What is read.
+/// An input.
 #[derive(Drop)]
 pub enum Input {
     File(File),
@@ -33,7 +33,7 @@ impl Input {
         Ok(Input::File(File::open(rt, path)?))
     }
 
-    /// What the system says of it, but of bytes that are held.
+    /// The system's data of it, but of bytes that are held.
     fn metadata(&self, rt: &HostRuntime) -> Option<Metadata> {
         match self {
             Input::File(file) => file.metadata().ok(),
@@ -52,7 +52,7 @@ impl Input {
         }
     }
 
-    /// Whether a read may have to wait for somebody who writes: that of a regular file hasn't to.
+    /// True if a read may have to wait for somebody who writes: that of a regular file hasn't to.
     pub fn may_pause(&self, rt: &HostRuntime) -> bool {
         match self {
             Input::Held(_) => false,
@@ -115,7 +115,7 @@ impl Write for OutputFile {
     }
 }
 
-/// What is written.
+/// An output.
 #[derive(Drop)]
 pub enum OutputStream {
     File(OutputFile),

@@ -38,7 +38,7 @@ pub struct Tap {
     pub files: Vec<TapFile>,
     /// The paths of the lists that name files of it.
     pub lists: Vec<String>,
-    /// What the thread that reads it met, for the one that tells of it.
+    /// The failure that the thread met which reads it, for the one that tells of it.
     failure: Mutex<Option<TapFailure>>,
 }
 
@@ -174,7 +174,7 @@ impl Tap {
         self.files.len() > 1
     }
 
-    /// What is read of its first file.
+    /// The choice of its first file.
     pub fn choice(&self) -> Choice {
         self.files.first().map_or(Choice::Any, |file| file.choice)
     }
@@ -276,12 +276,22 @@ pub struct Looked {
 }
 
 impl TapFile {
-    /// What the system says of the file, which standard input isn't one of.
+    /// The system's data of the file, which standard input isn't one of.
     fn metadata(&self, rt: &HostRuntime) -> Option<Metadata> {
         if is_standard(&self.path) {
             return None;
         }
         fs::metadata(rt, &self.path).ok()
+    }
+
+    /// How many bytes it has, if it is a regular file.
+    pub fn length(&self, rt: &HostRuntime) -> Option<u64> {
+        let found = self.metadata(rt)?;
+        if found.is_file() {
+            Some(found.len())
+        } else {
+            None
+        }
     }
 
     /// Is it a regular file, which may be read again?
@@ -341,7 +351,7 @@ impl TapFile {
     }
 }
 
-/// What was seen of a recording's files so far.
+/// The sight of a recording's files so far.
 #[derive(Drop)]
 struct Sight {
     files: Vec<Looked>,

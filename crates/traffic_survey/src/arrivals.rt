@@ -5,7 +5,7 @@ use crate::needs::Needs;
 use crate::numbering::Numbering;
 use afdx_frame::Stamp;
 
-/// What the frames of a link on one network say of its parameters.
+/// The parameters of a link by its frames on one network.
 #[derive(Drop)]
 pub struct Arrivals {
     /// How many frames there are.

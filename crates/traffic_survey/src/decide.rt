@@ -18,14 +18,14 @@ pub struct Reach {
     pub whole: bool,
 }
 
-/// Whether two recordings overlap in time.
+/// The overlap of two recordings in time.
 #[derive(Clone, Copy, PartialEq, Eq)]
 pub enum Overlap {
     /// They do.
     Together,
     /// One ends before the other begins.
     Apart,
-    /// What was read of one ends before the other begins, and it goes on.
+    /// The read part of one ends before the other begins, and it goes on.
     Unknown,
 }
 
@@ -37,7 +37,7 @@ fn overlap_after(is_whole: bool) -> Overlap {
     }
 }
 
-/// Whether two recordings overlap in time.
+/// The overlap of two recordings in time.
 pub(crate) fn overlap_of(a: Reach, b: Reach) -> Overlap {
     if a.greatest < b.least {
         overlap_after(a.whole)

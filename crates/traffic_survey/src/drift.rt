@@ -1,9 +1,9 @@
 //! Whether the clocks of two taps move apart, and whether a recording has frames twice.
 
 use crate::clocks::{Meeting, Sample};
-use crate::decide::is_nearly_all;
+use crate::decide::{is_nearly_all, wiring_of};
 use crate::inputs::Inputs;
-use crate::questions::Question;
+use crate::questions::{Crossing, Question};
 use afdx_frame::Network;
 use std::alloc::{AllocError, Global};
 use vl_config::Link;
@@ -161,19 +161,66 @@ fn names_both(inputs: &Inputs<'_>, network: Network) -> bool {
     marks.as_a > 0 && marks.as_a >= quarter && marks.as_b > 0 && marks.as_b >= quarter
 }
 
-/// What the links say: whether a recording has frames twice, and whether the clocks move apart.
+/// The frames on a network whose source addresses name the other one, if there are some.
+fn crossing_of(inputs: &Inputs<'_>, network: Network) -> Option<Crossing> {
+    let others = inputs.tap(network).crossed.others()?;
+    let mut crossing: Option<Crossing> = None;
+    for (link, tally) in inputs.links().iter().zip(inputs.tallies()) {
+        if !tally.is_crossed(network) {
+            continue;
+        }
+        let (first, links) = match crossing {
+            Some(before) => (before.link, before.links),
+            None => (link.id, 0),
+        };
+        crossing = Some(Crossing {
+            network,
+            frames: others.frames,
+            of: others.of,
+            link: first,
+            links: links.saturating_add(1),
+            first: others.first,
+            last: others.last,
+        });
+    }
+    crossing
+}
+
+/// Are the recordings told to be other networks' than the frames', or to be one?
+fn is_wiring_told(inputs: &Inputs<'_>) -> bool {
+    let (a, b) = (inputs.tap(Network::A), inputs.tap(Network::B));
+    a.is_same(b) || wiring_of(a.marks, b.marks).is_some()
+}
+
+/// Of the recording of a network: has it frames twice, or of the other network?
+fn ask_of_recording(
+    questions: &mut Vec<Question>,
+    inputs: &Inputs<'_>,
+    network: Network,
+) -> Result<(), AllocError> {
+    let (is_twice, mixed) = (are_twice(inputs, network), names_both(inputs, network));
+    if is_twice {
+        questions.push(Question::Twice { network, mixed })?;
+    }
+    if (is_twice && mixed) || is_wiring_told(inputs) {
+        return Ok(());
+    }
+    if let Some(crossing) = crossing_of(inputs, network) {
+        questions.push(Question::Crossed(crossing))?;
+    }
+    Ok(())
+}
+
+/// The questions that links raise: a recording that has frames twice, or frames of the other network, and
+/// clocks that move apart.
 ///
 /// # Errors
 ///
 /// `AllocError` if the system is out of memory.
 pub fn link_questions(alloc: Global, inputs: &Inputs<'_>) -> Result<Vec<Question>, AllocError> {
     let mut questions = Vec::new(alloc);
-    for network in [Network::A, Network::B] {
-        if are_twice(inputs, network) {
-            let mixed = names_both(inputs, network);
-            questions.push(Question::Twice { network, mixed })?;
-        }
-    }
+    ask_of_recording(&mut questions, inputs, Network::A)?;
+    ask_of_recording(&mut questions, inputs, Network::B)?;
     let rates = rates_of(alloc, inputs)?;
     if let Some(drift) = drift_of(&rates) {
         questions.push(Question::Drift(drift))?;

@@ -1,10 +1,11 @@
 //! The counts of both recordings against a table.
 
+use crate::kinds::{Kinds, ethertype_of};
 use crate::link::LinkTally;
 use crate::observer::Observer;
 use crate::per_network::PerNetwork;
 use crate::survey::MAX_CONSTANTS;
-use crate::tap_tally::TapTally;
+use crate::tap_tally::{TapTally, named_network};
 use afdx_frame::{LentFrame, Network, TapFrame, VL_ID_COUNT, VlId};
 use std::alloc::{AllocError, Global};
 use vl_config::{Class, Config, Link, class_by};
@@ -27,9 +28,10 @@ struct Listed<'a> {
     /// How many frames have each identifier that the table lacks.
     unlisted: Vec<u32>,
     constants: Vec<Constant>,
+    kinds: Kinds,
 }
 
-/// What was seen of two recordings, and of the links of the table if there is one.
+/// Two recordings as they were seen, and the links of the table if there is one.
 #[derive(Drop)]
 pub struct Inputs<'a> {
     taps: PerNetwork<TapTally>,
@@ -68,6 +70,7 @@ impl<'a> Listed<'a> {
             tallies: tallies_of(alloc, links)?,
             unlisted: vec![in alloc; 0; VL_ID_COUNT]?,
             constants: Vec::new(alloc),
+            kinds: Kinds::new(alloc),
         })
     }
 
@@ -92,6 +95,7 @@ impl<'a> Listed<'a> {
             Class::Foreign => {
                 let constant = frame.view().constant().unwrap_or(0);
                 see_constant(&mut self.constants, constant)?;
+                self.kinds.see(ethertype_of(frame.view().bytes()))?;
             }
             Class::Unconfigured => self.see_unlisted(frame),
             Class::TooLong | Class::Regular => self.see_link(place, frame),
@@ -113,6 +117,9 @@ impl<'a> Listed<'a> {
         let number = frame.view().sequence().unwrap_or(0);
         if let Some(tally) = self.tallies.get_mut(place) {
             tally.see(frame.network(), frame.stamp(), number);
+            if let Some(named) = named_network(frame.view().bytes()) {
+                tally.see_source(frame.network(), named);
+            }
         }
     }
 }
@@ -181,6 +188,14 @@ impl<'a> Inputs<'a> {
             None => None,
         };
         count.unwrap_or(0)
+    }
+
+    /// The foreign frames by what they carry, if there is a table.
+    pub fn kinds(&self) -> Option<&Kinds> {
+        match &self.listed {
+            Some(listed) => Some(&listed.kinds),
+            None => None,
+        }
     }
 
     /// The first constant fields that were met beside the table's, in the order of their first frames.

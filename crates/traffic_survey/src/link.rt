@@ -53,6 +53,8 @@ pub struct LinkTally {
     starts: PerNetwork<Starts>,
     copies: Copies,
     last: LastFrames,
+    /// How many frames on each network have a source address that names the other.
+    crossed: PerNetwork<u64>,
 }
 
 impl LinkTally {
@@ -65,6 +67,7 @@ impl LinkTally {
             },
             copies: Copies::within(skew),
             last: LastFrames::new(),
+            crossed: PerNetwork { a: 0, b: 0 },
         }
     }
 
@@ -78,6 +81,20 @@ impl LinkTally {
         self.starts.of_mut(network).see(sample);
         self.copies.see(network, number, stamp);
         self.last.see(network, sample);
+    }
+
+    /// Notes the network that the source address of a frame on a network names.
+    #[inline]
+    pub(crate) fn see_source(&mut self, on: Network, named: Network) {
+        if named != on {
+            let count = self.crossed.of_mut(on);
+            *count = count.saturating_add(1);
+        }
+    }
+
+    /// Has a frame on this network a source address that names the other?
+    pub(crate) fn is_crossed(&self, on: Network) -> bool {
+        *self.crossed.of(on) > 0
     }
 
     /// The last frame that both networks brought, one after the other.

@@ -11,7 +11,7 @@ pub(crate) const MAX_LINKS: usize = 4096;
 /// No link yet.
 const NO_LINK: u16 = u16::MAX;
 
-/// What the frames of one link say of it.
+/// One link by its frames.
 #[derive(Drop)]
 pub struct LinkSurvey {
     pub id: VlId,

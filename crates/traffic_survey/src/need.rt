@@ -26,7 +26,7 @@ pub struct Need {
 }
 
 impl Need {
-    /// What the frames of a link need that has sent one frame at most, at a BAG of so many nanoseconds.
+    /// The needs of a link's frames that has sent one frame at most, at a BAG of so many nanoseconds.
     pub(crate) fn new(bag: u64) -> Need {
         Need {
             bag,

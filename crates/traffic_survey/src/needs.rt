@@ -13,7 +13,7 @@ pub struct Needs {
 }
 
 impl Needs {
-    /// What the frames of a link need that has sent one frame at most.
+    /// The needs of a link's frames that has sent one frame at most.
     pub(crate) fn new() -> Needs {
         Needs {
             needs: BAGS_MS.map(|ms| Need::new(ms.saturating_mul(1_000_000))),
@@ -28,7 +28,7 @@ impl Needs {
         }
     }
 
-    /// What is needed at a BAG of so many milliseconds, if it is one of [`BAGS_MS`].
+    /// The needs at a BAG of so many milliseconds, if it is one of [`BAGS_MS`].
     pub fn at(&self, bag_ms: u64) -> Option<&Need> {
         self.needs
             .iter()

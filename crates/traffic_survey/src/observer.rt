@@ -3,9 +3,9 @@
 use afdx_frame::{LentFrame, TapFrame};
 use std::alloc::{AllocError, Global};
 
-/// What is shown the frames of both recordings, in the order of timestamp, network and number.
+/// An observer is shown the frames of both recordings, in the order of timestamp, network and number.
 pub(crate) trait Observer {
-    /// What of a frame waits until it is shown: all but some of its bytes.
+    /// The part of a frame that waits until it is shown: all but some of its bytes.
     ///
     /// # Errors
     ///

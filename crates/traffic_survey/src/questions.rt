@@ -8,7 +8,7 @@ use crate::decide::{
 use crate::drift::Drift;
 use crate::inputs::{Constant, Inputs};
 use crate::tap_tally::TapTally;
-use afdx_frame::Network;
+use afdx_frame::{Network, Stamp, VlId};
 use std::alloc::{AllocError, Global};
 
 /// How far the clock of one tap is ahead of the other's.
@@ -23,7 +23,22 @@ pub struct Difference {
     pub of: usize,
 }
 
-/// What looks wrong.
+/// Frames on a network whose source addresses name the other one.
+#[derive(Clone, Copy)]
+pub struct Crossing {
+    pub network: Network,
+    pub frames: u64,
+    /// How many frames of the table's links there are on it.
+    pub of: u64,
+    /// The first link of the table that has such frames, and how many have.
+    pub link: VlId,
+    pub links: u64,
+    /// When the first and the last of these frames came.
+    pub first: Stamp,
+    pub last: Stamp,
+}
+
+/// The questions: each is of something that looks wrong.
 #[derive(Clone, Copy)]
 pub enum Question {
     /// The recording of a network has no frame.
@@ -42,6 +57,12 @@ pub enum Question {
     },
     /// The frames of a network end with their frame check sequence.
     CheckSequence(Network),
+    /// Nearly all frames of a network have an 802.1Q tag.
+    Tagged {
+        network: Network,
+        frames: u64,
+        of: u64,
+    },
     /// Nearly all frames are longer than their link's Smax allows.
     TooLong {
         frames: u64,
@@ -64,13 +85,15 @@ pub enum Question {
         network: Network,
         mixed: bool,
     },
+    /// Frames of a network have source addresses of the other one.
+    Crossed(Crossing),
     /// The clocks move apart.
     Drift(Drift),
     /// Under half of the frames have a copy; the sequence numbers may say how far the clocks are apart.
     Clocks(Option<Difference>),
 }
 
-/// What was read of the recordings of networks A and B. None: no frame.
+/// The parts that were read of the recordings of networks A and B. None: no frame.
 #[derive(Clone, Copy)]
 pub struct Look {
     pub a: Option<Reach>,
@@ -82,7 +105,7 @@ pub struct Look {
 }
 
 impl Look {
-    /// Whether the recordings overlap in time. None: one has no frame.
+    /// True if the recordings overlap in time. None: one has no frame.
     pub fn overlap(&self) -> Option<Overlap> {
         Some(overlap_of(self.a?, self.b?))
     }
@@ -195,7 +218,7 @@ fn ask_of_networks(
     ask_if(questions, are_apart, Question::Apart)
 }
 
-/// Whether the frames are those of the table. Do they end with check sequences?
+/// True if the frames are those of the table. Do they end with check sequences?
 fn ask_of_frames(questions: &mut Vec<Question>, inputs: &Inputs<'_>) -> Result<bool, AllocError> {
     let (a, b) = (inputs.tap(Network::A), inputs.tap(Network::B));
     let of = a.frames().saturating_add(b.frames());
@@ -206,14 +229,33 @@ fn ask_of_frames(questions: &mut Vec<Question>, inputs: &Inputs<'_>) -> Result<b
     let (of_a, of_b) = (has_checks(a), has_checks(b));
     ask_if(questions, of_a, Question::CheckSequence(Network::A))?;
     ask_if(questions, of_b, Question::CheckSequence(Network::B))?;
+    let are_tagged_a = ask_of_tags(questions, Network::A, a)?;
+    let are_tagged = ask_of_tags(questions, Network::B, b)? || are_tagged_a;
     let frames = a.long.saturating_add(b.long);
-    // Frames with their check sequence are too long by that.
-    let are_too_long = !of_a && !of_b && is_nearly_all(frames, of);
+    // Frames with their check sequence or a tag are too long by that.
+    let are_too_long = !of_a && !of_b && !are_tagged && is_nearly_all(frames, of);
     ask_if(questions, are_too_long, Question::TooLong { frames, of })?;
     Ok(of_a || of_b)
 }
 
-/// Whether the table is that of the frames, and the recordings hold them whole.
+/// Have nearly all frames of a recording a tag?
+fn ask_of_tags(
+    questions: &mut Vec<Question>,
+    network: Network,
+    tap: &TapTally,
+) -> Result<bool, AllocError> {
+    let (frames, of) = (tap.tagged, tap.frames());
+    let are_tagged = is_nearly_all(frames, of);
+    let tagged = Question::Tagged {
+        network,
+        frames,
+        of,
+    };
+    ask_if(questions, are_tagged, tagged)?;
+    Ok(are_tagged)
+}
+
+/// True if the table is that of the frames, and the recordings hold them whole.
 fn ask_of_classes(
     questions: &mut Vec<Question>,
     a: &TapTally,
@@ -253,7 +295,7 @@ fn ask_if(
     Ok(())
 }
 
-/// What looks wrong, in the order in which it is to be mended.
+/// All that looks wrong, in the order in which it is to be mended.
 ///
 /// # Errors
 ///

@@ -26,7 +26,7 @@ pub struct Pass<S> {
 /// A survey that has ended, with the sources that it was given.
 #[derive(Drop)]
 pub struct SurveyRun<S> {
-    /// What was seen, and how the recordings of networks A and B were read, or why the survey was aborted.
+    /// The survey and the recordings of networks A and B as they were read, or the fault that aborted it.
     pub outcome: Result<(Survey, Recorded, Recorded), WatchFault>,
     /// The links of frames that weren't recorded whole.
     pub cut: CutLinks,

@@ -31,7 +31,7 @@ pub struct Field {
     pub links: Links,
 }
 
-/// What was seen of a network.
+/// The survey of a network.
 #[derive(Drop)]
 pub struct Survey {
     wanted: Option<u32>,

@@ -1,12 +1,17 @@
 //! What is counted of one recording, whatever its links.
 
 use crate::checksum::ends_with_check;
+use crate::crossed::Crossed;
 use crate::decide::Marks;
-use afdx_frame::LentFrame;
+use crate::kinds::ethertype_of;
+use afdx_frame::{LentFrame, Network, Stamp};
 use vl_config::Class;
 
 /// Of how many frames at most the frame check sequence is looked for.
 const CHECKED: u64 = 64;
+
+/// The EtherType of an 802.1Q tag.
+const TAG: u16 = 0x8100;
 
 /// The place of the last byte of a frame's source address.
 const INTERFACE: usize = 11;
@@ -27,6 +32,10 @@ pub struct TapTally {
     pub(crate) long: u64,
     /// Frames of links that the table lacks.
     pub(crate) unlisted: u64,
+    /// Frames of the table's links whose source address names a network, by which.
+    pub(crate) crossed: Crossed,
+    /// Frames with an 802.1Q tag.
+    pub(crate) tagged: u64,
     /// Frames that the recording doesn't hold whole, and the most bytes that it holds of one of them.
     pub(crate) cut: u64,
     pub(crate) snaplen: u64,
@@ -50,6 +59,8 @@ impl TapTally {
             foreign: 0,
             long: 0,
             unlisted: 0,
+            crossed: Crossed::new(),
+            tagged: 0,
             cut: 0,
             snaplen: 0,
         }
@@ -66,6 +77,18 @@ impl TapTally {
             .wrapping_add(shape);
         self.see_source(bytes);
         self.see_check(bytes, frame.whole());
+        if ethertype_of(bytes) == TAG {
+            self.tagged = self.tagged.saturating_add(1);
+        }
+        if matches!(class, Some(Class::TooLong | Class::Regular)) {
+            self.see_listed(frame.network(), bytes, frame.stamp());
+        }
+    }
+
+    /// Counts a frame of the table's links.
+    #[inline]
+    fn see_listed(&mut self, on: Network, bytes: &[u8], stamp: Stamp) {
+        self.crossed.see(on, named_network(bytes), stamp);
     }
 
     /// Counts a frame by its class, of which so many bytes are held.
@@ -94,16 +117,15 @@ impl TapTally {
         }
     }
 
-    /// Counts a frame, and what network its source address names: its last byte begins with the bits 001 on
-    /// network A, and with 010 on B (ARINC 664 Part 7).
+    /// Counts a frame, and what network its source address names.
     #[inline]
     fn see_source(&mut self, bytes: &[u8]) {
         let marks = &mut self.marks;
         marks.frames = marks.frames.saturating_add(1);
-        match bytes.get(INTERFACE).map(|byte| *byte >> 5) {
-            Some(1) => marks.as_a = marks.as_a.saturating_add(1),
-            Some(2) => marks.as_b = marks.as_b.saturating_add(1),
-            Some(_) | None => {}
+        match named_network(bytes) {
+            Some(Network::A) => marks.as_a = marks.as_a.saturating_add(1),
+            Some(Network::B) => marks.as_b = marks.as_b.saturating_add(1),
+            None => {}
         }
     }
 
@@ -116,6 +138,17 @@ impl TapTally {
     /// stamp all frames alike.
     pub(crate) fn is_same(&self, other: &TapTally) -> bool {
         0 < self.frames() && self.frames() == other.frames() && self.digest == other.digest
+    }
+}
+
+/// The network that a frame's source address names: its last byte begins with the bits 001 on network A,
+/// and with 010 on B (ARINC 664 Part 7).
+#[inline]
+pub(crate) fn named_network(bytes: &[u8]) -> Option<Network> {
+    match bytes.get(INTERFACE).map(|byte| *byte >> 5) {
+        Some(1) => Some(Network::A),
+        Some(2) => Some(Network::B),
+        Some(_) | None => None,
     }
 }
 
