@@ -18,6 +18,7 @@ pub struct Span {
 }
 
 impl Span {
+    /// The time between the two.
     pub fn length(self) -> Time {
         self.to - self.from
     }
@@ -30,7 +31,7 @@ impl Span {
         }
     }
 
-    /// What both have, of a negative length where they have nothing.
+    /// The span that both have, of a negative length where they have none.
     pub fn shared(self, other: Span) -> Span {
         Span {
             from: self.from.max(other.from),
@@ -44,7 +45,7 @@ impl Span {
     }
 }
 
-/// What a finding says beside its signs.
+/// The facts of a finding beside its signs.
 #[derive(Clone, Copy)]
 pub struct Facts {
     /// How many of the missing numbers are estimates.
@@ -58,7 +59,7 @@ pub struct Facts {
     /// How far a clock or a skew stepped, how fast clocks drift (parts in 10^9), or by how much counts
     /// differ.
     pub size: Long,
-    /// What a link's skew or interval was, and became.
+    /// The skew or interval of a link before and after a change.
     pub before: Option<Long>,
     pub after: Long,
     /// The greatest skew of a late frame, or time between two equal ones.
@@ -180,6 +181,7 @@ pub struct Noted {
 const MANY: usize = 4096;
 
 impl Accounts {
+    /// No account yet, for so many links.
     pub fn new(alloc: Global, links: usize) -> Result<Accounts, AllocError> {
         let mut own = Vec::with_capacity(alloc, links.saturating_add(1))?;
         for _link in 0..links {
@@ -269,10 +271,12 @@ impl Accounts {
         self.root(handle) != handle
     }
 
+    /// The account that has the signs: its own, or the one that took it over.
     pub fn get(&self, handle: Handle) -> Option<&Account> {
         self.all.get(self.root(handle).0)
     }
 
+    /// That account, to be changed.
     pub fn get_mut(&mut self, handle: Handle) -> Option<&mut Account> {
         let root = self.root(handle);
         self.all.get_mut(root.0)
@@ -283,28 +287,34 @@ impl Accounts {
         self.get(handle).map(|account| account.kind)
     }
 
+    /// How many of a sign the account has.
     pub fn count(&self, handle: Handle, sign: Sign) -> u64 {
         self.get(handle)
             .map_or(0, |account| account.signs.count(sign))
     }
 
+    /// How many signs with a word the account has, on both networks.
     pub fn sum(&self, handle: Handle, word: Word) -> u64 {
         self.get(handle)
             .map_or(0, |account| account.signs.sum(word))
     }
 
+    /// The facts of the account.
     pub fn facts(&self, handle: Handle) -> Facts {
         self.get(handle).map_or(NO_FACTS, |account| account.facts)
     }
 
+    /// The facts of the account, to be changed.
     pub fn facts_mut(&mut self, handle: Handle) -> Option<&mut Facts> {
         self.get_mut(handle).map(|account| &mut account.facts)
     }
 
+    /// From the account's first moment to its last, if it has one.
     pub fn span(&self, handle: Handle) -> Option<Span> {
         self.get(handle).and_then(|account| account.span)
     }
 
+    /// Stretches the account's time to have this time in it.
     pub fn widen(&mut self, handle: Handle, span: Span) {
         if let Some(account) = self.get_mut(handle) {
             account.widen(span);

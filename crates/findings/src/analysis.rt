@@ -14,7 +14,7 @@ use vl_config::{Class, Config};
 /// No link of the table.
 const NO_LINK: u16 = u16::MAX;
 
-/// What the line of a frame says.
+/// The content of the line of a frame.
 #[derive(Clone, Copy)]
 pub struct Line {
     pub network: Network,
@@ -42,7 +42,7 @@ pub enum RecordingEnd {
     Broken,
 }
 
-/// What was found so far.
+/// The analysis of a ledger so far.
 #[derive(Drop)]
 pub struct Analysis {
     links: Vec<LinkState>,
@@ -153,7 +153,7 @@ impl Analysis {
         self.flight.accounts.log.as_slice()
     }
 
-    /// What is found once the ledger has ended, and its recordings ended so.
+    /// The findings once the ledger has ended, and its recordings ended so.
     ///
     /// # Errors
     ///

@@ -19,7 +19,7 @@ const LINES: u64 = 64;
 
 const NETWORKS: [Network; 2] = [Network::A, Network::B];
 
-/// What a lane without numbers seems to be.
+/// The kinds that a lane without numbers may be of.
 const OF_NO_NUMBER: [Kind; 8] = [
     Kind::Stuck,
     Kind::Old,
@@ -94,7 +94,7 @@ impl Flight {
 
     // ---- clocks
 
-    /// What drifting clocks make late, and, on the network of the slower one, closer.
+    /// Claims the signs of drifting clocks: late copies, and closer frames on the slower clock's network.
     fn claim_drift(&mut self, links: &[LinkState]) -> Result<(), AllocError> {
         let Some(drift) = self.clocks.drift() else {
             return Ok(());
@@ -119,7 +119,7 @@ impl Flight {
         self.claim_moves(account, links, drift.moved.abs())
     }
 
-    /// What moves the skews of links by no more than so much is a clock's, and not a path's.
+    /// Claims moves of links' skews by no more than so much: they are a clock's, and not a path's.
     fn claim_moves(
         &mut self,
         clock: Handle,
@@ -384,7 +384,7 @@ impl Flight {
 
     // ---- links
 
-    /// What one cause of a link takes of another's signs.
+    /// Lets one cause of a link take another's signs.
     fn claim_link(
         &mut self,
         link: &mut LinkState,
@@ -542,7 +542,7 @@ impl Flight {
         Ok(())
     }
 
-    /// What is on both lanes alike is one finding of the link.
+    /// Makes one finding of the link of those that both lanes have alike.
     fn claim_alike(&mut self, link: usize, kind: Kind) -> Result<(), AllocError> {
         let a = self.accounts.find(link, kind, Side::A);
         let b = self.accounts.find(link, kind, Side::B);

@@ -104,7 +104,7 @@ pub struct DriftFound {
     pub to: Time,
 }
 
-/// What is known of the clocks.
+/// The knowledge of the clocks.
 #[derive(Drop)]
 pub struct Clocks {
     /// How far B's clock is ahead of A's, by the known steps, and by the drift since.
@@ -121,6 +121,7 @@ pub struct Clocks {
 }
 
 impl Clocks {
+    /// Clocks of which nothing is known yet.
     pub fn new(alloc: Global) -> Clocks {
         Clocks {
             offset: ZERO,
@@ -135,6 +136,7 @@ impl Clocks {
         }
     }
 
+    /// The latest step of a clock, if there was one.
     pub fn last_step(&self) -> Option<Step> {
         self.steps.last().copied()
     }
@@ -150,10 +152,15 @@ impl Clocks {
             let _first = self.steps.remove(0);
         }
         self.steps.push(step)?;
+        self.forget_blocks();
+        Ok(())
+    }
+
+    /// Forgets the latest blocks of skews.
+    pub fn forget_blocks(&mut self) {
         self.number = self.number.saturating_add(1);
         self.block = Block::empty();
         self.blocks.clear();
-        Ok(())
     }
 
     /// Notes how far a link's skew is from what is usual.

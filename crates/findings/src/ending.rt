@@ -118,7 +118,7 @@ impl LinkState {
         Ok(())
     }
 
-    /// What the other network has that this one didn't get by its end.
+    /// Ends a lane: the numbers that the other network has and this one didn't get are missing.
     fn end_lane(&self, flight: &mut Flight, network: Network) -> Result<(), AllocError> {
         let lane = self.lane(network);
         let (ahead, since) = (lane.ahead, lane.ahead_since.unwrap_or(ZERO));

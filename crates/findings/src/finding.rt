@@ -38,7 +38,7 @@ pub struct Finding {
     pub is_rest: bool,
 }
 
-/// What a finding says of the link that it is about.
+/// The rate of the link that a finding is about.
 #[derive(Clone, Copy)]
 pub struct LinkRate {
     pub bag: u64,

@@ -25,7 +25,7 @@ pub struct Kept {
     pub more: Option<Handle>,
 }
 
-/// What the links of a flight share.
+/// The state that the links of a flight share.
 #[derive(Drop)]
 pub struct Flight {
     pub alloc: Global,
@@ -218,8 +218,22 @@ impl Flight {
         }
     }
 
+    /// Does a clock's step just before say the same? Pairs of frames that it parts show it again.
+    fn is_told(&self, step: &SkewStep) -> bool {
+        let Some(last) = self.clocks.last_step() else {
+            return false;
+        };
+        let of_clock = self.accounts.kind(last.account) == Some(Kind::ClockStep);
+        let size = last.size.abs();
+        of_clock && (step.size.abs() - size).is_within(size / 8) && step.since <= last.at + size * 2
+    }
+
     /// All skews stepped.
     fn note_skew_step(&mut self, step: &SkewStep) -> Result<(), AllocError> {
+        if self.is_told(step) {
+            self.clocks.forget_blocks();
+            return Ok(());
+        }
         let later = if step.size < ZERO { Side::A } else { Side::B };
         let account = self.accounts.open(Kind::SkewStep, None, later)?;
         if let Some(facts) = self.accounts.facts_mut(account) {

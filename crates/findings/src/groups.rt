@@ -44,7 +44,7 @@ pub struct Group {
     side: Side,
     span: Span,
     events: Vec<Handle>,
-    /// What they became, once it is decided.
+    /// The account that they became, once it is decided.
     account: Option<Handle>,
     crossing: usize,
     losing: usize,
@@ -329,7 +329,7 @@ impl Flight {
         Ok(())
     }
 
-    /// What an event is that is its link's own.
+    /// The kind of an event that is its link's own.
     fn kind_alone(&self, kind: Kind, event: Handle) -> Kind {
         let missing = self.accounts.facts(event).missing;
         let lost = Long::of(self.accounts.sum(event, Word::Lost));

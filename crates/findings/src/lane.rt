@@ -12,7 +12,7 @@ pub const ROUND: i64 = 255;
 /// The first position of a link, less its number. Below it there is room for frames of the other network.
 const FIRST: i64 = 1024;
 
-/// What is known of the last positions of a lane.
+/// The last positions of a lane.
 #[derive(Clone, Copy)]
 pub struct Window {
     /// A bit for each position, the lowest for the latest: which frames came, were delivered, came early.
@@ -72,14 +72,17 @@ impl Window {
         }
     }
 
+    /// Did a frame come for the position that lies so far back?
     pub fn is_seen(&self, back: Long) -> bool {
         bit(self.seen, back)
     }
 
+    /// Was the frame of the position that lies so far back delivered?
     pub fn is_delivered(&self, back: Long) -> bool {
         bit(self.delivered, back)
     }
 
+    /// Did the frame of the position that lies so far back come too early?
     pub fn is_early(&self, back: Long) -> bool {
         bit(self.early, back)
     }
@@ -94,11 +97,13 @@ impl Window {
         Long(i64::from((self.seen & !older).count_ones()))
     }
 
+    /// When the frame of a position came, in nanoseconds; 0 if none did.
     pub fn time(&self, position: Position) -> Time {
         let time = self.times.as_slice().get(place_of(position));
         time.copied().unwrap_or(ZERO)
     }
 
+    /// Keeps when the frame of a position came.
     pub fn set_time(&mut self, position: Position, at: Time) {
         if let Some(time) = self.times.as_mut_slice().get_mut(place_of(position)) {
             *time = at;
@@ -140,7 +145,7 @@ pub struct Edges {
     pub line: Time,
 }
 
-/// What is kept of a lane.
+/// The state of a lane.
 #[derive(Drop)]
 pub struct Lane {
     pub network: Network,
@@ -189,6 +194,7 @@ pub fn steps_between(before: u8, number: u8) -> Long {
 }
 
 impl Lane {
+    /// A lane without frames.
     pub fn new(network: Network) -> Lane {
         Lane {
             network,

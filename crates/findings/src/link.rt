@@ -24,7 +24,7 @@ const OUTAGES: usize = 64;
 /// So many old numbers in a row, each after the other, are a sender that jumped back.
 const OLD_RUN: u32 = 16;
 
-/// What the line of a frame of a link says.
+/// The content of the line of a frame of a link.
 #[derive(Clone, Copy)]
 pub struct Frame {
     pub network: Network,
@@ -50,7 +50,7 @@ struct Arrival {
     guess: Guess,
 }
 
-/// What was taken for the start of a recording.
+/// The signs that were taken for the start of a recording.
 #[derive(Clone, Copy)]
 pub struct Begun {
     pub account: Handle,
@@ -58,7 +58,7 @@ pub struct Begun {
     pub count: Long,
 }
 
-/// What is kept of a link.
+/// The state of a link.
 #[derive(Drop)]
 pub struct LinkState {
     /// Its place in the table, and its identifier.
@@ -85,6 +85,7 @@ pub struct LinkState {
 }
 
 impl LinkState {
+    /// A link without frames, at its place in the table.
     pub fn new(alloc: Global, place: usize, link: &Link) -> LinkState {
         let bag = Long::of(link.bag);
         LinkState {
@@ -107,6 +108,7 @@ impl LinkState {
         }
     }
 
+    /// The link's lane on a network.
     pub fn lane(&self, network: Network) -> &Lane {
         match network {
             Network::A => &self.a,
@@ -114,6 +116,7 @@ impl LinkState {
         }
     }
 
+    /// The link's lane on a network, to be changed.
     pub fn lane_mut(&mut self, network: Network) -> &mut Lane {
         match network {
             Network::A => &mut self.a,
@@ -129,6 +132,7 @@ impl LinkState {
         }
     }
 
+    /// How many frames came, on both networks.
     pub fn frames(&self) -> u64 {
         self.a.frames.saturating_add(self.b.frames)
     }

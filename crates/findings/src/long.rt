@@ -30,6 +30,7 @@ impl Long {
         u64::try_from(self.0).unwrap_or(0)
     }
 
+    /// The number without its sign.
     #[inline]
     pub fn abs(self) -> Long {
         Long(self.0.saturating_abs())

@@ -22,6 +22,7 @@ pub struct Pause {
 }
 
 impl Pause {
+    /// The moment at which frames came again.
     pub fn to(self) -> Time {
         self.from + self.length
     }
@@ -34,7 +35,7 @@ pub struct Outside {
     pub frames: u64,
 }
 
-/// What is kept of a network.
+/// The state of a network.
 #[derive(Drop)]
 pub struct NetworkState {
     /// When its first line and its last line came.
@@ -67,6 +68,7 @@ pub fn common_divisor(one: Time, other: Time) -> Time {
 }
 
 impl NetworkState {
+    /// A network without frames.
     pub fn new(alloc: Global) -> NetworkState {
         NetworkState {
             first: None,

@@ -14,7 +14,7 @@ use std::alloc::AllocError;
 /// From so many missing numbers on, other links may have lost theirs at the same time.
 const SOME: Long = Long(3);
 
-/// What a lane's arrival says of the numbers between.
+/// The numbers between, by a lane's arrival: how many are missing where.
 #[derive(Clone, Copy)]
 pub struct Missing {
     /// How many there are, how many of them came on the other network, and how many on neither.

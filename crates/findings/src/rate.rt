@@ -16,7 +16,7 @@ const UNPROVEN: u64 = 127;
 
 const LONGEST_TIMES: i64 = 8;
 
-/// What is kept of a link's intervals.
+/// The intervals of a link.
 #[derive(Clone, Copy)]
 pub struct Rate {
     bag: Time,
@@ -49,7 +49,7 @@ const OTHER: u64 = 8;
 pub struct Proof {
     pub interval: Time,
     pub from: Time,
-    /// What was proven before.
+    /// The interval that was proven before.
     pub before: Option<Time>,
 }
 
@@ -64,6 +64,7 @@ impl Proof {
 }
 
 impl Rate {
+    /// A rate of which only the BAG is known.
     pub fn new(bag: Time) -> Rate {
         Rate {
             bag,

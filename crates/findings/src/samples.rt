@@ -9,6 +9,7 @@ pub struct Samples<const N: usize> {
 }
 
 impl<const N: usize> Samples<N> {
+    /// No sample.
     pub fn none() -> Samples<N> {
         Samples {
             values: [ZERO; N],
@@ -16,10 +17,12 @@ impl<const N: usize> Samples<N> {
         }
     }
 
+    /// How many samples there are.
     pub fn len(&self) -> usize {
         self.count
     }
 
+    /// Is there no room for another?
     pub fn is_full(&self) -> bool {
         self.count >= N
     }
@@ -53,14 +56,17 @@ impl<const N: usize> Samples<N> {
         held.get(place).copied().unwrap_or(ZERO)
     }
 
+    /// The middle sample by size.
     pub fn median(&self) -> Long {
         self.at(1, 2)
     }
 
+    /// The least sample.
     pub fn least(&self) -> Long {
         self.at(0, 1)
     }
 
+    /// The greatest sample.
     pub fn greatest(&self) -> Long {
         self.at(self.count.saturating_sub(1), self.count.max(1))
     }

@@ -2,7 +2,7 @@
 use afdx_frame::Network;
 use std::alloc::{AllocError, Global};
 
-/// What is counted. docs/REPORT.md says when each occurs.
+/// The words of signs. docs/REPORT.md says when each occurs.
 #[derive(Clone, Copy, PartialEq, Eq)]
 pub enum Word {
     Cut,
@@ -40,6 +40,7 @@ pub enum Word {
 }
 
 impl Word {
+    /// The word as JSON has it.
     pub fn text(self) -> &'static str {
         match self {
             Word::Cut => "cut",
@@ -78,7 +79,7 @@ impl Word {
     }
 }
 
-/// What a sign or a finding is about: one network or both.
+/// The networks that a sign or a finding is about: one or both.
 #[derive(Clone, Copy, PartialEq, Eq, PartialOrd, Ord)]
 pub enum Side {
     A,
@@ -87,6 +88,7 @@ pub enum Side {
 }
 
 impl Side {
+    /// The side that is one network.
     pub fn of(network: Network) -> Side {
         match network {
             Network::A => Side::A,
@@ -121,6 +123,7 @@ pub struct Sign {
 }
 
 impl Sign {
+    /// The sign of a word on one network.
     pub fn on(word: Word, network: Network) -> Sign {
         Sign {
             word,
@@ -128,6 +131,7 @@ impl Sign {
         }
     }
 
+    /// The sign of a word that isn't counted by network.
     pub fn of(word: Word) -> Sign {
         Sign {
             word,
@@ -150,6 +154,7 @@ pub struct Signs {
 }
 
 impl Signs {
+    /// No signs.
     pub fn none(alloc: Global) -> Signs {
         Signs {
             counts: Vec::new(alloc),
@@ -181,6 +186,7 @@ impl Signs {
         self.counts.iter().any(|one| one.count > 0)
     }
 
+    /// Adds so many of a sign.
     pub fn add(&mut self, sign: Sign, count: u64) -> Result<(), AllocError> {
         for one in self.counts.iter_mut() {
             if one.sign == sign {
@@ -203,6 +209,7 @@ impl Signs {
         false
     }
 
+    /// Adds all of the others.
     pub fn add_all(&mut self, others: &Signs) -> Result<(), AllocError> {
         for one in others.counts.iter() {
             self.add(one.sign, one.count)?;

@@ -16,7 +16,7 @@ pub struct EndedRun {
     pub skew: Long,
 }
 
-/// What is kept of a link's pairs.
+/// The pairs of a link, by their skews.
 #[derive(Clone, Copy)]
 pub struct SkewState {
     pub skew_max: Time,
@@ -27,7 +27,8 @@ pub struct SkewState {
     five_at: Samples<5>,
     moved: Samples<MOVED>,
     moved_at: Samples<MOVED>,
-    /// How far the link's skew has moved since; when it did last, how far it had before, and the move's account.
+    /// How far the link's skew has moved since; when it did last, how far it had before, and the account of
+    /// the move.
     pub level: Long,
     moved_when: Option<Time>,
     level_before: Long,
@@ -56,6 +57,7 @@ pub struct Move {
 }
 
 impl SkewState {
+    /// A link's skew before its first pair, with the greatest that the table allows.
     pub fn new(skew_max: Time) -> SkewState {
         SkewState {
             skew_max,

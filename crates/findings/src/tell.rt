@@ -59,7 +59,7 @@ struct Row {
     account: Handle,
 }
 
-/// What several accounts say together.
+/// The sum of several accounts.
 #[derive(Drop)]
 struct Sum {
     signs: Signs,
@@ -215,7 +215,7 @@ impl Telling<'_> {
         Ok(())
     }
 
-    /// What a finding says of a link.
+    /// The rate of a link for a finding.
     fn rate(&self, link: &LinkState) -> LinkRate {
         let state = self.flight.skews.get(link.place);
         LinkRate {
@@ -274,7 +274,7 @@ impl Telling<'_> {
         Ok(())
     }
 
-    /// What one of a network's own accounts says.
+    /// The sum of one of a network's own accounts.
     fn sum_of(&mut self, account: Handle) -> Result<Sum, AllocError> {
         let mut sum = Sum::none(self.alloc);
         sum.add(self.flight, account)?;

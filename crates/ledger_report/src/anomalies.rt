@@ -9,7 +9,7 @@ use policing::Policing;
 use std::alloc::{AllocError, Global};
 use vl_config::Class;
 
-/// What a report counts beside frames: a sign, as its page and its JSON call it.
+/// The signs that a report counts beside frames, as its page and its JSON call them.
 #[derive(Clone, Copy, PartialEq, Eq)]
 pub enum Anomaly {
     Cut,

@@ -56,7 +56,7 @@ pub struct CountsLines {
     text: Vec<u8>,
 }
 
-/// What stands after the words that are expected.
+/// The rest after the words that are expected.
 fn after<'a>(line: &'a [u8], words: &str) -> Option<&'a [u8]>
     ensures { MatchOption result ((rest : List ℕ) → line.now ≡ words.now ++ rest → ⊥)
         (λ rest. line.now ≡ words.now ++ rest.now) }
@@ -64,7 +64,7 @@ fn after<'a>(line: &'a [u8], words: &str) -> Option<&'a [u8]>
     line.strip_prefix(words.as_bytes())
 }
 
-/// What stands before the newline at the end.
+/// The text before the newline at the end.
 fn before_newline(text: &[u8]) -> Option<&[u8]>
     ensures { MatchOption result ((front : List ℕ) → text.now ≢ front ++ codes "\n")
         (λ front. text.now ≡ front.now ++ codes "\n") }

@@ -37,7 +37,8 @@ fn of_no_link(alloc: Global) -> Result<Vec<PerNumber<Delivered>>, AllocError>
 impl Deliveries {
     /// No delivery.
     pub(crate) fn new(alloc: Global) -> Result<Deliveries, AllocError>
-        ensures { IfOk result (λ deliveries. (id number : ℕ) → held_in deliveries.links.items id number ≡ None) }
+        ensures { IfOk result (λ deliveries.
+            (id number : ℕ) → held_in deliveries.links.items id number ≡ None) }
     {
         Ok(Deliveries {
             links: of_no_link(alloc)?,

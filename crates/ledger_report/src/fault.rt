@@ -7,7 +7,7 @@ use ledger_text::LineFault;
 use std::alloc::AllocError;
 use thiserror::Error;
 
-/// What is wrong with a line of a ledger, by itself or against the table and the lines before it.
+/// The faults of a line of a ledger, by itself or against the table and the lines before it.
 #[derive(Clone, Copy, Debug, PartialEq, Eq, Error)]
 pub enum WrongLine {
     /// The line is none that stands at its place in a ledger.

@@ -56,21 +56,27 @@ fn numbers_of(report: &Report, link: &LinkReport) -> Option<LinkNumbers> {
         late: count_both(link, Anomaly::Late),
         least: least_of(link),
         skew: skew_of(link),
+        skew_median: (link.copies > 0).then_some(link.skew_median),
     })
 }
 
-/// The link at this index of the table in both reports, which are against that table. Nothing
-/// where a report doesn't have it.
+/// The link of this identifier in a report, whose links are by identifier.
+fn link_of(report: &Report, id: VlId) -> Option<&LinkReport> {
+    let place = report.links.binary_search_by_key(&id.0, |link| link.id.0);
+    report.links.get(place.ok()?)
+}
+
+/// The link at this index of today's table in both reports, which may be against different tables. Nothing
+/// where today's report doesn't have it.
 pub fn comparison_at(today: &Report, baseline: &Report, index: usize) -> Option<LinkComparison> {
-    match (today.links.get(index), baseline.links.get(index)) {
-        (Some(link), Some(before)) => Some(LinkComparison {
-            link: link.id,
-            redundancy: link.redundancy,
-            today: numbers_of(today, link),
-            baseline: numbers_of(baseline, before),
-        }),
-        _ => None,
-    }
+    let link = today.links.get(index)?;
+    let before = link_of(baseline, link.id);
+    Some(LinkComparison {
+        link: link.id,
+        redundancy: link.redundancy,
+        today: numbers_of(today, link),
+        baseline: before.and_then(|before| numbers_of(baseline, before)),
+    })
 }
 
 /// Does a link outside the table have frames today, and none in the baseline?

@@ -25,7 +25,7 @@ const MAX_SKEW: u64 = 1_000_000_000;
 /// How many numbers a link delivers after one before an equal one counts as another: half of all there are.
 const SINCE: usize = 128;
 
-/// What the lines of frames so far ask of the next one.
+/// The demands of the lines of frames so far on the next one.
 #[derive(Drop)]
 pub struct FrameLines {
     /// Where the latest line's frame stands in the order of both networks.
@@ -109,7 +109,7 @@ impl FrameLines {
         self.deliveries.latest(line.link?, number_of(line))
     }
 
-    /// What is wrong with the next line: the first that holds.
+    /// The fault of the next line: the first that holds.
     #[inline]
     fn wrong(&self, config: &Config, line: &FrameLine) -> Option<WrongLine>
         ensures { (before : List FrameLine) → HasTaken before self.now
@@ -144,7 +144,7 @@ impl FrameLines {
         }
     }
 
-    /// What is wrong with a line of this link, where it is a copy.
+    /// The fault of a line of this link, where it is a copy.
     #[inline]
     fn copy_wrong(&self, link: &Link, line: &FrameLine) -> Option<WrongLine>
         ensures { (delivery : Option FrameLine)

@@ -8,7 +8,7 @@ use std::alloc::{AllocError, Global};
 /// The check sequence, which recordings don't hold.
 const CHECK_BYTES: u64 = 4;
 
-/// What the lines of one link on one network say. Of these only the lines of class `toolong` and `regular`
+/// The lines of one link on one network. Of these only the lines of class `toolong` and `regular`
 /// count.
 #[derive(Drop)]
 pub struct LaneReport {

@@ -4,8 +4,11 @@
 //! table's links, and no line allocates but for the first hits of each series. docs/REPORT.md defines
 //! every number over the list of lines.
 //!
+//! [`Part`] takes some of a ledger's lines alone. [`read_part`] reads lines of frames of which others are
+//! left out.
+//!
 //! ```text
-//! let report = read_report(alloc, &config, source)?;
+//! let report = read_report(alloc, &config, source, None)?;
 //! let lost = report.links[0].lanes.a.signs.of(Anomaly::Lost).count;
 //! ```
 #![tactic(auto)]
@@ -25,6 +28,7 @@ mod median;
 mod moment;
 mod network;
 mod numbers;
+mod part;
 mod per_number;
 mod report;
 mod series;
@@ -44,7 +48,8 @@ pub use link::LinkReport;
 pub use moment::FramePlace;
 pub use network::NetworkReport;
 pub use numbers::{COUNTS, Count, LinkNumbers};
-pub use report::{OutsideLink, Report, read_report};
+pub use part::Part;
+pub use report::{OutsideLink, Report, read_part, read_report};
 pub use series::Series;
 pub use verdict_ledger::{LinkCounts, Totals};
-pub use worse::{LEAST_GROWTH, LinkComparison, WORSE, Worse};
+pub use worse::{CHANGES, Change, LEAST_GROWTH, LEAST_SKEW, LinkComparison, WORSE, Worse};

@@ -12,7 +12,7 @@ use ledger_text::FrameLine;
 use std::alloc::{AllocError, Global};
 use vl_config::Link;
 
-/// What the lines of one link say.
+/// The lines of one link.
 #[derive(Drop)]
 pub struct LinkReport {
     pub id: VlId,

@@ -19,7 +19,7 @@ const LINK_SIGNS: [Anomaly; 6] = [
     Anomaly::Early,
 ];
 
-/// What the lines of one network say.
+/// The lines of one network.
 #[derive(Drop)]
 pub struct NetworkReport {
     /// How many lines it has.

@@ -1,6 +1,6 @@
 //! The numbers of a link in one flight.
 
-/// What is counted of a link's lines.
+/// The counts of a link's lines.
 #[derive(Clone, Copy, PartialEq, Eq)]
 pub enum Count {
     /// Frames longer than Smax, which are discarded.
@@ -59,6 +59,8 @@ pub struct LinkNumbers {
     pub least: Option<u64>,
     /// The greatest skew, that of late deliveries too, in nanoseconds, where a second came.
     pub skew: Option<u64>,
+    /// The median of the skews of its copies, where there is one.
+    pub skew_median: Option<u64>,
 }
 
 /// In how many parts of a second or of a frame rates and shares count.

@@ -17,10 +17,13 @@ use crate::frame_lines::FrameLines;
 use crate::link::LinkReport;
 use crate::moment::{FramePlace, LinePlace};
 use crate::network::NetworkReport;
+use crate::part::Part;
 use crate::statistics::Statistics;
 use afdx_frame::{Network, VlId};
 use findings::{Findings, PerNetwork};
-use ledger_text::{FoundLine, LedgerLine, LedgerReader, LedgerStop, LinesRefused, ReadFault};
+use ledger_text::{
+    FoundLine, FrameLine, LedgerLine, LedgerReader, LedgerStop, LinesRefused, ReadFault,
+};
 use pcap_io::TapSource;
 use std::alloc::{AllocError, Global};
 use vl_config::Config;
@@ -57,7 +60,7 @@ impl OutsideLink {
     }
 }
 
-/// What a ledger says.
+/// The report on a ledger.
 #[derive(Drop)]
 pub struct Report {
     /// The timestamps of the first line and the last; 0 where there is none.
@@ -70,10 +73,12 @@ pub struct Report {
     pub links: Vec<LinkReport>,
     /// By identifier, the links outside the table; none where there is no such frame.
     pub outside: Vec<OutsideLink>,
-    /// What went wrong, worst first.
+    /// The findings, worst first.
     pub findings: Findings,
-    /// The counts of lines by their words.
+    /// The counts of the ledger's lines by their words.
     pub counts: FrameCounts,
+    /// The lines that the report is about, where it isn't about all.
+    pub part: Option<Part>,
     /// How the recordings end, where the ledger says so.
     pub endings: PerNetwork<Option<TapEnding>>,
     /// Does the ledger have its last line?
@@ -83,6 +88,14 @@ pub struct Report {
 }
 
 impl Report {
+    /// The counts of the lines that the report is about.
+    pub fn counted(&self) -> &FrameCounts {
+        match &self.part {
+            Some(part) => &part.counts,
+            None => &self.counts,
+        }
+    }
+
     /// The links outside the table that have a frame.
     pub fn outside_link(&self, id: VlId) -> Option<OutsideLink> {
         match self.outside.get(usize::from(id.0)) {
@@ -115,7 +128,7 @@ fn read_fault(fault: ReadFault) -> NoReport
     }
 }
 
-/// What was read so far.
+/// The part that was read so far.
 #[derive(Drop)]
 struct Reading {
     counts: FrameCounts,
@@ -171,7 +184,7 @@ fn read_lines<S: TapSource>(
 /// Reads a ledger, and makes its report against the table that it was judged by.
 ///
 /// One pass, numbers alone: the memory is bounded by the table's links, some 40 KB each, whatever the
-/// ledger's length.
+/// ledger's length. All lines are checked; of those that `part` doesn't take the report has nothing else.
 ///
 /// # Errors
 ///
@@ -182,6 +195,7 @@ pub fn read_report<S: TapSource + Drop>(
     alloc: Global,
     config: &Config,
     source: S,
+    part: Option<Part>,
 ) -> Result<Report, ReportRefused>
     ensures told { IfOk result (TellsLedger (S.remaining source) config.now) }
     ensures refused { IfErr result (λ refused. (after : S) × IsRefused config.now
@@ -196,7 +210,7 @@ pub fn read_report<S: TapSource + Drop>(
             });
         }
     };
-    let mut reading = match Reading::new(alloc, config) {
+    let mut reading = match Reading::new(alloc, config, part) {
         Ok(reading) => reading,
         Err(AllocError) => {
             return Err(ReportRefused {
@@ -221,8 +235,70 @@ pub fn read_report<S: TapSource + Drop>(
     }
 }
 
+/// Notes the next line of a part of a ledger. That lines before it are missing isn't told as wrong.
+fn note_partial(config: &Config, frame: &FrameLine, reading: &mut Reading) -> Result<(), Refusal> {
+    match reading.frames.take(config, frame) {
+        Ok(()) | Err(Refusal::Wrong(WrongLine::Copy | WrongLine::Skew)) => {}
+        Err(refusal) => return Err(refusal),
+    }
+    reading.counts.count(frame);
+    match reading.statistics.note(frame, &reading.frames) {
+        Ok(()) => Ok(()),
+        Err(AllocError) => Err(Refusal::Memory),
+    }
+}
+
+/// Reads the lines of a part of a ledger up to its end. Some: within which line it ends.
+fn read_partial<S: TapSource>(
+    config: &Config,
+    ledger: &mut LedgerReader<S>,
+    reading: &mut Reading,
+) -> Result<Option<LedgerStop>, NoReport> {
+    // A ledger has at most 2^34 lines: its end comes before the loop's.
+    for _ in 0..u64::MAX {
+        match ledger.advance() {
+            Ok(FoundLine::Line(LedgerLine::Frame(frame))) => {
+                if let Err(refusal) = note_partial(config, &frame, reading) {
+                    return Err(line_fault(ledger.number(), refusal));
+                }
+            }
+            Ok(FoundLine::Line(LedgerLine::Head | LedgerLine::Counts(_))) => {}
+            Ok(FoundLine::Complete) => return Ok(None),
+            Ok(FoundLine::Incomplete(end)) => return Ok(Some(end)),
+            Err(fault) => return Err(read_fault(fault)),
+        }
+    }
+    Err(NoReport::Read)
+}
+
+/// Reads a part of a ledger, a head and lines of frames of which others are left out, and makes its report.
+/// A copy whose delivery is left out isn't wrong, and there are no counts to compare with.
+///
+/// # Errors
+///
+/// As [`read_report`], but for what lines that are left out would say.
+pub fn read_part<S: TapSource + Drop>(
+    alloc: Global,
+    config: &Config,
+    source: S,
+    part: Option<Part>,
+) -> Result<Report, NoReport> {
+    let Ok(mut ledger) = LedgerReader::new(alloc, source) else {
+        return Err(NoReport::Memory);
+    };
+    let Ok(mut reading) = Reading::new(alloc, config, part) else {
+        return Err(NoReport::Memory);
+    };
+    let stop = read_partial(config, &mut ledger, &mut reading)?;
+    let stop = stop.filter(|stop| stop.within_line);
+    match reading.statistics.end(&reading.lines.endings) {
+        Ok(()) => Ok(reading.into_report(stop)),
+        Err(AllocError) => Err(NoReport::Memory),
+    }
+}
+
 impl Reading {
-    fn new(alloc: Global, config: &Config) -> Result<Reading, AllocError>
+    fn new(alloc: Global, config: &Config, part: Option<Part>) -> Result<Reading, AllocError>
         ensures counts { IfOk result (λ reading. AreCountsOf [] reading.counts) }
         ensures frames { IfOk result (λ reading. HasTaken [] reading.frames) }
         ensures lines { IfOk result (λ reading. HasCounted [] reading.lines) }
@@ -231,7 +307,7 @@ impl Reading {
             counts: FrameCounts::new(alloc)?,
             frames: FrameLines::new(alloc)?,
             lines: CountsLines::new(alloc),
-            statistics: Statistics::new(alloc, config)?,
+            statistics: Statistics::new(alloc, config, part)?,
         })
     }
 
@@ -275,6 +351,7 @@ impl Reading {
             outside: statistics.outside,
             findings: statistics.findings,
             counts,
+            part: statistics.part,
             endings: lines.endings,
             whole: lines.whole,
             stop,

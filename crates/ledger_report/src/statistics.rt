@@ -7,6 +7,7 @@ use crate::frame_lines::FrameLines;
 use crate::link::LinkReport;
 use crate::moment::{FramePlace, LinePlace};
 use crate::network::NetworkReport;
+use crate::part::Part;
 use crate::report::OutsideLink;
 use crate::series::doublings_for;
 use afdx_frame::{Network, VL_ID_COUNT, VlId};
@@ -51,11 +52,13 @@ pub struct Statistics {
     /// By identifier, the frames of a link outside the table; none where there is no such frame.
     pub outside: Vec<OutsideLink>,
     analysis: Analysis,
-    /// What the ledger says went wrong, once it has ended.
+    /// Which lines are noted, where not all are.
+    pub part: Option<Part>,
+    /// The findings, once the ledger has ended.
     pub findings: Findings,
 }
 
-/// What a line says of its frame.
+/// The line of a frame, as the findings take it.
 #[inline]
 fn line_of(line: &FrameLine) -> Line {
     let verdict = &line.verdict;
@@ -161,7 +164,11 @@ fn note_sign(
 }
 
 impl Statistics {
-    pub(crate) fn new(alloc: Global, config: &Config) -> Result<Statistics, AllocError> {
+    pub(crate) fn new(
+        alloc: Global,
+        config: &Config,
+        part: Option<Part>,
+    ) -> Result<Statistics, AllocError> {
         Ok(Statistics {
             start: 0,
             width: FIRST_WIDTH,
@@ -174,6 +181,7 @@ impl Statistics {
             index: index_of(alloc, config)?,
             outside: Vec::new(alloc),
             analysis: Analysis::new(alloc, config)?,
+            part,
             findings: Findings::none(alloc),
         })
     }
@@ -183,8 +191,21 @@ impl Statistics {
         self.latest.unwrap_or(self.start)
     }
 
-    /// Notes the ledger's next line of a frame, of which nothing is wrong, among the lines so far.
+    /// Notes the ledger's next line of a frame, of which nothing is wrong, among the lines so far, if it is
+    /// taken.
     pub(crate) fn note(&mut self, line: &FrameLine, lines: &FrameLines) -> Result<(), AllocError> {
+        let takes = match &mut self.part {
+            Some(part) => part.takes(line),
+            None => true,
+        };
+        if takes {
+            self.note_taken(line, lines)
+        } else {
+            Ok(())
+        }
+    }
+
+    fn note_taken(&mut self, line: &FrameLine, lines: &FrameLines) -> Result<(), AllocError> {
         let place = FramePlace {
             stamp: line.stamp.0,
             number: line.number,

@@ -33,6 +33,35 @@ pub const WORSE: [Worse; 12] = [
     Worse::Grew(Count::Reset),
 ];
 
+/// How a link is otherwise than in the baseline, for better or for worse.
+#[derive(Clone, Copy, PartialEq, Eq)]
+pub enum Change {
+    /// Its frames by second are others, by more than a quarter of the baseline's.
+    Rate,
+    /// The median of its skews is another one: more than twice the other, and [`LEAST_SKEW`] more at least.
+    Skew,
+    /// A count grew or fell by more than chance would.
+    Share(Count),
+}
+
+/// All ways in which a link is otherwise, in the order in which they are told.
+pub const CHANGES: [Change; 11] = [
+    Change::Rate,
+    Change::Skew,
+    Change::Share(Count::LostBoth),
+    Change::Share(Count::Excess),
+    Change::Share(Count::TooLong),
+    Change::Share(Count::Late),
+    Change::Share(Count::Lost),
+    Change::Share(Count::Out),
+    Change::Share(Count::Alone),
+    Change::Share(Count::Repeat),
+    Change::Share(Count::Reset),
+];
+
+/// By how much a median of skews changes at least that is told, in nanoseconds: 10 us.
+pub const LEAST_SKEW: u64 = 10_000;
+
 /// By how much a count grows at least where chance alone wouldn't do it.
 pub const LEAST_GROWTH: u64 = 3;
 
@@ -52,6 +81,32 @@ fn has_grown(count: u64, frames: u64, before: u64, frames_before: u64) -> bool {
     let now = u128::from(count) * u128::from(frames_before);
     let then = u128::from(before) * u128::from(frames);
     count.saturating_sub(before) >= LEAST_GROWTH && now.saturating_sub(then) > then
+}
+
+/// Is a rate another than before, by more than a quarter of that?
+fn is_another_rate(today: Option<u64>, before: Option<u64>) -> bool {
+    match (today, before) {
+        (Some(today), Some(before)) => today.abs_diff(before) > before / 4,
+        _ => false,
+    }
+}
+
+/// Is a median of skews another than before?
+fn is_another_skew(today: Option<u64>, before: Option<u64>) -> bool {
+    match (today, before) {
+        (Some(today), Some(before)) => {
+            let apart = today.abs_diff(before);
+            apart >= LEAST_SKEW && apart > today.min(before)
+        }
+        _ => false,
+    }
+}
+
+/// Did a count grow in one flight against the other?
+fn is_another_share(count: Count, today: LinkNumbers, before: LinkNumbers) -> bool {
+    let (now, then) = (today.count(count), before.count(count));
+    has_grown(now, today.frames, then, before.frames)
+        || has_grown(then, before.frames, now, today.frames)
 }
 
 /// Did the link lose its copies?
@@ -75,6 +130,18 @@ impl LinkComparison {
                 baseline.frames,
             ),
             _ => false,
+        }
+    }
+
+    /// Is the link otherwise so?
+    pub fn is_changed(&self, how: Change) -> bool {
+        let (Some(today), Some(before)) = (self.today, self.baseline) else {
+            return false;
+        };
+        match how {
+            Change::Rate => is_another_rate(today.rate(), before.rate()),
+            Change::Skew => is_another_skew(today.skew_median, before.skew_median),
+            Change::Share(count) => is_another_share(count, today, before),
         }
     }
 }

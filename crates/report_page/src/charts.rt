@@ -1,12 +1,12 @@
 //! Charts: drawings with no text, in whole numbers but for ticks.
 
-use crate::numbers::{quotient, share};
+use crate::numbers::{MINUTE, quotient, share};
 use crate::view::View;
 use crate::writer::Page;
-use crate::writer::Part::{self, Hundredths, Number, Tenths, Text, Tick};
-use afdx_frame::Network;
-use findings::{Finding, Kind as Found, Side};
-use ledger_report::{BINS, LaneReport, LinkReport, Series};
+use crate::writer::Part::{self, Clock, Hundredths, Number, Tenths, Text, Tick};
+use afdx_frame::{Network, VlId};
+use findings::{Finding, Kind as Found, Side, Span};
+use ledger_report::{BINS, LinkReport, Series};
 
 /// How the bins of a column become one number.
 #[derive(Clone, Copy, PartialEq, Eq)]
@@ -80,7 +80,7 @@ impl Stair {
         }
     }
 
-    /// What is so far from the base line.
+    /// The point so far from the base line.
     fn at(self, height: u64) -> u64 {
         match self {
             Stair::Above(base) => base.saturating_sub(height),
@@ -141,12 +141,58 @@ fn across(view: &View<'_>, since: u64) -> Part<'static> {
     Tenths(share(since, 10, view.report.width))
 }
 
+/// The distances of two ticks of a long flight's axis, in minutes.
+const CLOCK_STEPS: [u64; 10] = [5, 10, 15, 30, 60, 120, 180, 360, 720, 1440];
+
+/// The distance of two ticks of a long flight's axis: the first of these that makes at most 12, or days.
+fn clock_step(span: u64) -> u64 {
+    for &minutes in &CLOCK_STEPS {
+        let step = MINUTE.saturating_mul(minutes);
+        if quotient(span, step) <= 12 {
+            return step;
+        }
+    }
+    let day = MINUTE.saturating_mul(1440);
+    day.saturating_mul(quotient(span, day.saturating_mul(12)).saturating_add(1))
+}
+
+/// Where the axis has ticks, after the first line: the first one, and their distance.
+#[derive(Clone, Copy)]
+struct Ticks {
+    first: u64,
+    step: u64,
+}
+
+impl Ticks {
+    /// At round times since the first line, of a long flight at round times of the day in UTC.
+    fn of(view: &View<'_>) -> Ticks {
+        if !view.is_long() {
+            return Ticks {
+                first: 0,
+                step: tick_step(view.span),
+            };
+        }
+        let step = clock_step(view.span);
+        let past = view.report.start.checked_rem(step).unwrap_or(0);
+        let first = if past == 0 {
+            0
+        } else {
+            step.saturating_sub(past)
+        };
+        Ticks { first, step }
+    }
+
+    fn at(self, tick: u64) -> u64 {
+        self.first.saturating_add(tick.saturating_mul(self.step))
+    }
+}
+
 /// Appends the grid.
 fn push_grid(page: &mut Page, view: &View<'_>, height: u64) {
-    let step = tick_step(view.span);
+    let ticks = Ticks::of(view);
     page.text("<path class=\"gr\" d=\"");
     for tick in 0..13u64 {
-        let at = tick.saturating_mul(step);
+        let at = ticks.at(tick);
         if at <= view.span {
             fill!(page; "M$x$ 0V$height$"; x = across(view, at), height = Number(height));
         }
@@ -154,17 +200,25 @@ fn push_grid(page: &mut Page, view: &View<'_>, height: u64) {
     page.text("\"/>");
 }
 
-/// A band of time.
-const BAND: &str =
-    "<rect class=\"$class$\" y=\"$y$\" height=\"$height$\" x=\"$x$\" width=\"$width$\"/>";
+/// A band of time, which a browser names where the pointer is.
+const BAND: &str = "\
+<rect class=\"$class$\" y=\"$y$\" height=\"$height$\" x=\"$x$\" width=\"$width$\">\
+<title>$title$</title></rect>";
 
 /// Where a network's half of a drawing begins, and how high it is.
 type Half = (u64, u64);
 
-/// Appends a band from one time to another, after the first line.
-fn push_band(page: &mut Page, view: &View<'_>, half: Half, class: &str, (from, to): (u64, u64)) {
-    fill!(page; BAND; class = Text(class), y = Number(half.0), height = Number(half.1),
-        x = across(view, from), width = across(view, to.saturating_sub(from)));
+/// The class of a band, and what it is.
+type Band = (&'static str, &'static str);
+
+/// A network has nothing recorded.
+const UNRECORDED: Band = ("nr", "nothing recorded");
+
+/// Appends a band from one time to another, after the first line. It is at least half a bin wide.
+fn push_band(page: &mut Page, view: &View<'_>, half: Half, band: Band, (from, to): (u64, u64)) {
+    let wide = to.saturating_sub(from).max(view.report.width / 2);
+    fill!(page; BAND; class = Text(band.0), y = Number(half.0), height = Number(half.1),
+        x = across(view, from), width = across(view, wide), title = Text(band.1));
 }
 
 /// Is a finding a silence of this network?
@@ -173,27 +227,73 @@ pub fn is_silence(finding: &Finding, network: Network) -> bool {
     finding.kind == Found::Silence && is_on && !finding.is_rest
 }
 
-/// The most silences that a drawing shows on a network.
-const SHOWN_SILENCES: usize = 32;
+/// Of which links a drawing marks outages.
+#[derive(Clone, Copy, PartialEq, Eq)]
+pub enum Pauses {
+    /// Of no link: the drawing is of the networks.
+    OfNone,
+    OfAll,
+    Of(VlId),
+}
 
-/// Appends silences, and the times that weren't recorded, on a network's half.
+impl Pauses {
+    /// Is the finding about one of these links?
+    fn has(self, finding: &Finding) -> bool {
+        match self {
+            Pauses::OfNone => false,
+            Pauses::OfAll => true,
+            Pauses::Of(id) => finding.links.iter().any(|link| *link == id),
+        }
+    }
+}
+
+/// How a finding is marked on a network's half, if it is.
+fn band_of(finding: &Finding, network: Network, pauses: Pauses) -> Option<Band> {
+    let is_on = finding.side == Side::Both || finding.side == Side::of(network);
+    if finding.is_rest || !is_on {
+        return None;
+    }
+    match finding.kind {
+        Found::Silence => Some(("si", "network silent")),
+        Found::ClockStep => Some(("st", "clock step")),
+        Found::SkewStep => Some(("st", "all skews step")),
+        Found::Outage if pauses.has(finding) => Some(("ou", "link pauses")),
+        _ => None,
+    }
+}
+
+/// The most findings that a drawing marks on a network, and the most times of each.
+const MARKED: usize = 64;
+
+const MARKED_TIMES: usize = 32;
+
+/// Appends the bands of a finding.
+fn push_bands(page: &mut Page, view: &View<'_>, half: Half, band: Band, finding: &Finding) {
+    let ends = |span: &Span| (span.from.0.unsigned_abs(), span.to.0.unsigned_abs());
+    if finding.spans.is_empty() {
+        return push_band(page, view, half, band, ends(&finding.span));
+    }
+    for span in finding.spans.iter().take(MARKED_TIMES) {
+        push_band(page, view, half, band, ends(span));
+    }
+}
+
+/// Appends silences, steps and outages on a network's half.
+fn push_marks(page: &mut Page, view: &View<'_>, network: Network, half: Half, pauses: Pauses) {
+    let findings = view.report.findings.all.iter();
+    for finding in findings
+        .filter(|one| band_of(one, network, pauses).is_some())
+        .take(MARKED)
+    {
+        if let Some(band) = band_of(finding, network, pauses) {
+            push_bands(page, view, half, band, finding);
+        }
+    }
+}
+
+/// Appends the times that weren't recorded on a network's half.
 fn push_blind_half(page: &mut Page, view: &View<'_>, network: Network, half: Half) {
     let (report, side) = (view.report, view.report.networks.of(network));
-    let silences = report
-        .findings
-        .all
-        .iter()
-        .filter(|one| is_silence(one, network));
-    for silence in silences.take(SHOWN_SILENCES) {
-        let (from, to) = (silence.span.from.0, silence.span.to.0);
-        push_band(
-            page,
-            view,
-            half,
-            "si",
-            (from.unsigned_abs(), to.unsigned_abs()),
-        );
-    }
     let end = view.span;
     let none = side.frames == 0;
     let (first, last) = if none {
@@ -203,10 +303,10 @@ fn push_blind_half(page: &mut Page, view: &View<'_>, network: Network, half: Hal
         (since(side.first), since(side.last))
     };
     if none || first > report.width {
-        push_band(page, view, half, "nr", (0, first));
+        push_band(page, view, half, UNRECORDED, (0, first));
     }
     if report.end.saturating_sub(report.start).saturating_sub(last) > report.width {
-        push_band(page, view, half, "nr", (last, end));
+        push_band(page, view, half, UNRECORDED, (last, end));
     }
 }
 
@@ -226,9 +326,20 @@ pub struct Drawing {
     pub per: usize,
     /// A dashed line at this number on both sides, if it is above 0.
     pub limit: u64,
+    pub pauses: Pauses,
 }
 
-/// What begins a row with a drawing.
+impl Drawing {
+    /// The same of a link, whose outages it marks.
+    pub fn of(self, link: &LinkReport) -> Drawing {
+        Drawing {
+            pauses: Pauses::Of(link.id),
+            ..self
+        }
+    }
+}
+
+/// The beginning of a row with a drawing.
 const BEGIN: &str = "\
 <div class=\"row\"><span class=\"lb\">$label$$?detail$<small>$detail$</small>$/$</span>\
 <svg class=\"g\" viewBox=\"0 0 $used$ $height$\" style=\"--h:$height$px\" \
@@ -240,6 +351,43 @@ fn begin_row(page: &mut Page, view: &View<'_>, texts: Texts<'_>, height: u64) {
         used = Number(view.used as u64), height = Number(height));
     push_grid(page, view, height);
 }
+
+/// Appends what is marked on both halves of a drawing.
+fn push_halves(page: &mut Page, view: &View<'_>, base: u64, pauses: Pauses) {
+    for (network, half) in [(Network::A, (0, base)), (Network::B, (base, base))] {
+        push_blind_half(page, view, network, half);
+        push_marks(page, view, network, half, pauses);
+    }
+}
+
+/// How many findings of this kind are marked.
+fn marked(view: &View<'_>, kind: Found) -> u64 {
+    let findings = view.report.findings.all.iter();
+    findings
+        .filter(|one| one.kind == kind && !one.is_rest)
+        .count() as u64
+}
+
+/// Appends the row of silences, steps and outages, if there are some.
+pub fn push_events(page: &mut Page, view: &View<'_>) {
+    let (silences, outages) = (marked(view, Found::Silence), marked(view, Found::Outage));
+    let steps = marked(view, Found::ClockStep).saturating_add(marked(view, Found::SkewStep));
+    if silences == 0 && steps == 0 && outages == 0 {
+        return;
+    }
+    begin_row(page, view, EVENTS_TEXTS, 24);
+    push_halves(page, view, 12, Pauses::OfAll);
+    fill!(page; EVENTS; silences = Number(silences), steps = Number(steps), outages = Number(outages));
+}
+
+const EVENTS_TEXTS: Texts<'static> = (
+    "events",
+    "",
+    "silences, clock steps and outages, A above, B below",
+);
+
+const EVENTS: &str = "\
+</svg><span class=\"vl\"><small>silences $silences$, steps $steps$, outages $outages$</small></span></div>";
 
 /// Appends dashed lines across a drawing.
 fn push_limits(page: &mut Page, view: &View<'_>, high: u64, low: u64) {
@@ -264,8 +412,7 @@ pub fn push_row(
     let high = base.saturating_sub(1);
     let (above, below) = (Stair::Above(base), Stair::Below(base));
     begin_row(page, view, texts, drawing.height);
-    push_blind_half(page, view, Network::A, (0, base));
-    push_blind_half(page, view, Network::B, (base, base));
+    push_halves(page, view, base, drawing.pauses);
     push_stair(page, drawing.classes.0, &a, (top, high), above);
     push_stair(page, drawing.classes.1, &b, (top, high), below);
     page.text("<path class=\"zl\" d=\"");
@@ -318,12 +465,14 @@ pub fn push_intervals(
     texts: Texts<'_>,
     drawing: Drawing,
     link: &LinkReport,
-    lane: &LaneReport,
+    network: Network,
 ) {
     let (bag, height) = (link.bag, drawing.height);
+    let lane = link.lanes.of(network);
     let least = Columns::new(view, Kind::Least, drawing.per).with(&lane.least_bins);
     let greatest = Columns::new(view, Kind::Greatest, drawing.per).with(&lane.greatest_bins);
     begin_row(page, view, texts, height);
+    push_marks(page, view, network, (0, height), drawing.pauses);
     fill!(page; PATH; class = Text(drawing.classes.0));
     push_interval_band(page, &least, &greatest, bag, height);
     page.text("\"/>");
@@ -333,17 +482,41 @@ pub fn push_intervals(
     page.text("</svg><span class=\"vl\">");
 }
 
-/// Appends the axis.
-pub fn push_axis(page: &mut Page, view: &View<'_>) {
-    let step = tick_step(view.span);
-    page.text("<div class=\"row axr\"><span></span><div class=\"ax\">");
+/// A label of the axis.
+const LABEL: &str = "<b style=\"left:$left$%\">$at$$unit$</b>";
+
+/// Appends the labels of a long flight's axis, times of the day in UTC.
+fn push_clock_labels(page: &mut Page, view: &View<'_>, ticks: Ticks) {
+    fill!(page; LABEL; left = Number(0), at = Text("UTC"));
     for tick in 0..13u64 {
-        let at = tick.saturating_mul(step);
+        let at = ticks.at(tick);
+        let place = share(at, 10_000, view.span);
+        if (500..9_850).contains(&place) {
+            fill!(page; LABEL; left = Hundredths(place), at = Clock(view.report.start.saturating_add(at)));
+        }
+    }
+}
+
+/// Appends the labels of an axis, seconds since the first line.
+fn push_labels(page: &mut Page, view: &View<'_>, ticks: Ticks) {
+    for tick in 0..13u64 {
+        let at = ticks.at(tick);
         let place = share(at, 10_000, view.span);
         if place < 9_850 {
-            fill!(page; "<b style=\"left:$left$%\">$at$$unit$</b>"; left = Hundredths(place), at = Tick(at),
+            fill!(page; LABEL; left = Hundredths(place), at = Tick(at),
                 unit = Text(if tick == 0 { " s" } else { "" }));
         }
+    }
+}
+
+/// Appends the axis.
+pub fn push_axis(page: &mut Page, view: &View<'_>) {
+    let ticks = Ticks::of(view);
+    page.text("<div class=\"row axr\"><span></span><div class=\"ax\">");
+    if view.is_long() {
+        push_clock_labels(page, view, ticks);
+    } else {
+        push_labels(page, view, ticks);
     }
     page.text("</div><span></span></div>");
 }

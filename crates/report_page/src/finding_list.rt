@@ -1,15 +1,16 @@
 //! What to look at first: the findings, worst first.
 
+use crate::compared::is_new;
 use crate::cut_command::push_cut;
 use crate::ranks::mark_of;
 use crate::sentences::push_sentence;
-use crate::tables::worse_word;
+use crate::tables::{change_word, worse_word};
 use crate::view::View;
 use crate::writer::Part::{Grouped, Number, Text, Utc};
 use crate::writer::{Page, flag};
 use afdx_frame::VlId;
 use findings::Level;
-use ledger_report::{Count, Report, WORSE, Worse, is_new_outside};
+use ledger_report::{Change, Count, Report, WORSE, Worse, is_new_outside};
 
 /// The most findings that are told on a page.
 const SHOWN: usize = 200;
@@ -17,12 +18,15 @@ const SHOWN: usize = 200;
 const ITEM: &str = "<li><svg class=\"mk $mark$</svg><span>";
 
 const WHEN: &str = "\
-<details><summary>when, and how to cut it</summary><p>from $from$ to $to$, $count$ in all</p><code>";
+<details><summary>when, and how to cut it</summary><p>from $from$ to $to$: $count$ sign$s$</p><code>";
+
+/// The mark before a finding that the baseline doesn't have.
+const NEW: &str = "<i class=\"new\">new</i> ";
 
 /// How many links a sentence on the baseline names.
 const NAMED: usize = 3;
 
-/// What begins the sentence on links that got worse so.
+/// The beginning of the sentence on links that got worse so.
 fn title_of(how: Worse) -> &'static str {
     match how {
         Worse::LostCopies => "Lost its copies since the baseline",
@@ -60,6 +64,31 @@ fn push_worse(page: &mut Page, view: &View<'_>, how: Worse) {
     }
 }
 
+/// Appends which links that didn't get worse have another rate or skew since the baseline.
+fn push_changed(page: &mut Page, view: &View<'_>, how: Change) {
+    let mut named = 0usize;
+    for rank in view.ranks.iter() {
+        let Some((link, configured)) = view.compared(rank.index) else {
+            continue;
+        };
+        if view.is_worse(rank.index) || !link.is_changed(how) {
+            continue;
+        }
+        if named == 0 {
+            fill!(page; ITEM; mark = Text(mark_of(Level::Notice)));
+            fill!(page; "<b>Another $word$ than in the baseline:</b> "; word = Text(change_word(how)));
+        }
+        if named < NAMED {
+            fill!(page; "$?follows$, $/$$name$"; follows = flag(named > 0), name = Text(&configured.name));
+        }
+        named = named.saturating_add(1);
+    }
+    if named > 0 {
+        let more = named.saturating_sub(NAMED) as u64;
+        fill!(page; "$?more$ and $more$ more$/$</span></li>"; more = Number(more));
+    }
+}
+
 /// Appends the links outside the table that the baseline doesn't have.
 fn push_new_outside(page: &mut Page, view: &View<'_>, baseline: &Report) {
     let mut named = 0usize;
@@ -74,7 +103,8 @@ fn push_new_outside(page: &mut Page, view: &View<'_>, baseline: &Report) {
         named = named.saturating_add(1);
     }
     if named > 0 {
-        fill!(page; ", $all$ in all</span></li>"; all = Number(named as u64));
+        let more = named.saturating_sub(NAMED) as u64;
+        fill!(page; "$?more$ and $more$ more$/$</span></li>"; more = Number(more));
     }
 }
 
@@ -83,6 +113,9 @@ pub fn push_findings(page: &mut Page, view: &View<'_>) {
     if let Some(baseline) = view.baseline {
         for &how in &WORSE {
             push_worse(page, view, how);
+        }
+        for how in [Change::Rate, Change::Skew] {
+            push_changed(page, view, how);
         }
         push_new_outside(page, view, baseline);
     }
@@ -94,12 +127,14 @@ fn push_all(page: &mut Page, view: &View<'_>) {
     let findings = view.report.findings.all.as_slice();
     for finding in findings.iter().take(SHOWN) {
         fill!(page; ITEM; mark = Text(mark_of(finding.level)));
+        page.text(if is_new(view, finding) { NEW } else { "" });
         push_sentence(page, view, finding, ("<b>", "</b>"), true);
         let (from, to) = (
             view.stamp(finding.span.from.0),
             view.stamp(finding.span.to.0),
         );
-        fill!(page; WHEN; from = Utc(from), to = Utc(to), count = Grouped(finding.count));
+        fill!(page; WHEN; from = Utc(from), to = Utc(to), count = Grouped(finding.count),
+            s = Text(if finding.count == 1 { "" } else { "s" }));
         push_cut(page, view, finding);
         page.text("</code></details></span></li>");
     }
@@ -119,6 +154,6 @@ skew and verdict. A ledger doesn't tell what frames hold, nor their source addre
 
 /// Appends that nothing was found, and what was looked at.
 fn push_nothing(page: &mut Page, view: &View<'_>) {
-    fill!(page; NOTHING; frames = Grouped(view.report.counts.all().frames),
+    fill!(page; NOTHING; frames = Grouped(view.report.counted().all().frames),
         links = Grouped(view.report.links.len() as u64), length = view.length());
 }

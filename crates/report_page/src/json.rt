@@ -1,25 +1,28 @@
 //! The report as JSON.
 
 use self::Value::{Flag, Known, Number, Quoted, Stamp, Stamped};
+use crate::compared::{
+    REVISIONS, count_of, is_first, is_only_in, is_revised, keys_of, link_in, links_for,
+};
 use crate::cut_command::push_cut;
 use crate::page::end_word;
-use crate::ranks::{level_at, signs_of, word_of};
+use crate::ranks::{failing, level_at, signs_of, word_of};
 use crate::sentences::push_sentence;
-use crate::tables::{count_word, worse_word};
-use crate::view::{SIGNS, Shown, View};
+use crate::tables::{change_word, count_word, worse_word};
+use crate::view::{SIGNS, Shown, View, Zoom};
 use crate::writer::{Page, Part};
 use afdx_frame::Network::{self, A, B};
 use afdx_frame::VlId;
 use findings::{Finding, Findings, Sign, Signs};
 use ledger_report::{
-    Anomalies, Anomaly, AnomalyTally, COUNTS, FramePlace, LinkComparison, LinkCounts, LinkNumbers,
-    LinkReport, OutsideLink, Report, Series, Totals, WORSE, is_new_outside,
+    Anomalies, Anomaly, AnomalyTally, CHANGES, COUNTS, FramePlace, LinkComparison, LinkCounts,
+    LinkNumbers, LinkReport, OutsideLink, Report, Series, Totals, WORSE, is_new_outside,
 };
 use serde_json::Error;
 use std::alloc::Global;
-use vl_config::Link;
+use vl_config::{Config, Link};
 
-/// What a network counts of each frame beside what a lane does: preamble, start of frame and least gap.
+/// The bytes of each frame that a network counts beside a lane's: preamble, start of frame and least gap.
 const BESIDE: u64 = 20;
 
 /// A value without members.
@@ -182,7 +185,7 @@ impl Json {
         self.close("}");
     }
 
-    /// What is found, how many signs there are in all, and how bad each link is.
+    /// Writes the findings, how many signs there are in all, and how bad each link is.
     fn findings(&mut self, view: &View<'_>) {
         let found = &view.report.findings;
         each!(self; "findings", "[", "]"; finding in &found.all => self.finding(view, finding));
@@ -247,7 +250,7 @@ impl Json {
         self.open("", "{");
         members!(self; id = Number(u64::from(link.id.0)), name = Quoted(&configured.name),
             level = Quoted(word_of(level_at(view.report, index))), signs = Number(signs_of(link)));
-        self.link_counts(view.report.counts.link(link.id));
+        self.link_counts(view.report.counted().link(link.id));
         members!(self; link: copies, skew_sum, skew_greatest, skew_median, late_greatest, lost_both);
         self.lane(link, A, view.sizes);
         self.lane(link, B, view.sizes);
@@ -265,7 +268,10 @@ impl Json {
     }
 
     fn network(&mut self, report: &Report, network: Network, sizes: bool) {
-        let (side, counts) = (report.networks.of(network), report.counts.network(network));
+        let (side, counts) = (
+            report.networks.of(network),
+            report.counted().network(network),
+        );
         let some = side.frames > 0;
         let beside = counts.accepted.saturating_mul(BESIDE);
         let bytes = side.bytes.saturating_sub(beside);
@@ -304,26 +310,52 @@ impl Json {
 
     /// When a flight begins and ends.
     fn flight(&mut self, report: &Report) {
-        let some = report.counts.all().frames > 0;
+        let some = report.counted().all().frames > 0;
         members!(self; start = Stamped(some.then_some(report.start)),
             end = Stamped(some.then_some(report.end)));
     }
 
-    /// What stands before the networks.
+    /// Writes the members before the networks.
     fn head(&mut self, view: &View<'_>) {
         let report = view.report;
         members!(self; version = Number(2), whole = Flag(report.whole));
+        object_if!(self; "fail_on"; view.fail_on => level; level = Quoted(word_of(level)),
+            findings = Number(failing(&report.findings, level)));
+        self.part(&view.zoom);
         object_if!(self; "stopped"; report.stop => stop; lines = Number(stop.lines),
             within_line = Flag(stop.within_line));
         members!(self; sizes = Flag(view.sizes));
         self.flight(report);
         members!(self; report: width);
-        self.counts(report.counts.all());
+        self.counts(report.counted().all());
         self.list("filters", view.filters());
         self.findings(view);
     }
 
-    fn report(&mut self, view: &View<'_>, manifest: &str) {
+    /// A text that was given to the program, if it was.
+    fn given(&mut self, name: &str, text: Option<&str>) {
+        self.name(name);
+        match text {
+            Some(text) => self.page.quoted(text),
+            None => self.page.text("null"),
+        }
+    }
+
+    /// Of which part of a ledger the report is, if it is of one.
+    fn part(&mut self, zoom: &Zoom<'_>) {
+        if !zoom.is_part() {
+            return self.value("part", Known(None));
+        }
+        self.open("part", "{");
+        self.given("from", zoom.from);
+        self.given("to", zoom.to);
+        self.given("link", zoom.link);
+        self.given("network", zoom.network);
+        members!(self; partial = Flag(zoom.partial));
+        self.close("}");
+    }
+
+    fn report(&mut self, view: &View<'_>, before: Option<&View<'_>>, manifest: &str) {
         let report = view.report;
         self.open("", "{");
         self.head(view);
@@ -333,8 +365,8 @@ impl Json {
         self.outside(report);
         self.name("manifest");
         self.page.text(manifest);
-        if let Some(baseline) = view.baseline {
-            self.baseline(view, baseline);
+        if let Some(before) = before {
+            self.baseline(view, before);
         }
         self.close("}");
     }
@@ -346,7 +378,8 @@ impl Json {
         };
         self.open(name, "{");
         members!(self; frames = Number(numbers.frames), rate = Known(numbers.rate()),
-            copies = Number(numbers.copies), least = Known(numbers.least), skew = Known(numbers.skew));
+            copies = Number(numbers.copies), least = Known(numbers.least), skew = Known(numbers.skew),
+            skew_median = Known(numbers.skew_median));
         each!(self; "counts", "{", "}"; &count in &COUNTS =>
             self.value(count_word(count), Number(numbers.count(count))));
         each!(self; "shares", "{", "}}"; &count in &COUNTS =>
@@ -362,17 +395,88 @@ impl Json {
         members!(self; id = Number(u64::from(configured.id.0)), name = Quoted(&configured.name));
         let worse = WORSE.iter().filter(|how| link.is_worse(**how));
         each!(self; "worse", "[", "]"; how in worse => self.value("", Quoted(worse_word(*how))));
+        let changed = CHANGES.iter().filter(|how| link.is_changed(**how));
+        each!(self; "changed", "[", "]"; how in changed => self.value("", Quoted(change_word(*how))));
         self.numbers("today", link.today);
         self.numbers("baseline", link.baseline);
         self.close("}");
     }
 
+    /// The links in which the tables differ.
+    fn table(&mut self, today: &Config, before: &Config) {
+        self.open("table", "{");
+        for &how in &REVISIONS {
+            let links = links_for(today, before, how).iter();
+            let links = links.filter(|link| is_revised(today, before, how, link.id));
+            each!(self; how.word(), "[", "]"; link in links => self.revised(today, before, link.id));
+        }
+        self.close("}");
+    }
+
+    /// A link in which the tables differ: its names, and the keys that do.
+    fn revised(&mut self, today: &Config, before: &Config, id: VlId) {
+        let (now, then) = (link_in(today, id), link_in(before, id));
+        self.open("", "{");
+        members!(self; id = Number(u64::from(id.0)));
+        self.given("name", now.map(|link| link.name.as_str()));
+        self.given("before", then.map(|link| link.name.as_str()));
+        self.open("keys", "[");
+        if let (Some(now), Some(then)) = (now, then) {
+            self.keys(now, then);
+        }
+        self.close("]}");
+    }
+
+    /// The keys of a link's row that differ.
+    fn keys(&mut self, now: &Link, then: &Link) {
+        for (key, differs) in keys_of(now, then) {
+            if differs {
+                self.value("", Quoted(key));
+            }
+        }
+    }
+
+    /// How many findings of each kind both flights have: of the kinds of one, or of those of it alone.
+    fn kinds(&mut self, own: &Findings, others: &Findings, is_today: bool) {
+        for (at, finding) in own.all.iter().enumerate() {
+            let (here, there) = (count_of(own, finding.kind), count_of(others, finding.kind));
+            if is_first(own, at) && (is_today || there == 0) {
+                let (today, then) = if is_today {
+                    (here, there)
+                } else {
+                    (there, here)
+                };
+                self.open("", "{");
+                members!(self; kind = Quoted(finding.kind.word()), today = Number(today),
+                    baseline = Number(then));
+                self.close("}");
+            }
+        }
+    }
+
+    /// Writes the findings of one of two flights alone, and how many findings of each kind they have.
+    fn found(&mut self, view: &View<'_>, before: &View<'_>) {
+        let (today, then) = (&view.report.findings, &before.report.findings);
+        self.open("findings", "{");
+        let new = today.all.iter().filter(|one| is_only_in(one, then));
+        each!(self; "new", "[", "]"; finding in new => self.finding(view, finding));
+        let gone = then.all.iter().filter(|one| is_only_in(one, today));
+        each!(self; "gone", "[", "]"; finding in gone => self.finding(before, finding));
+        self.open("kinds", "[");
+        self.kinds(today, then, true);
+        self.kinds(then, today, false);
+        self.close("]}");
+    }
+
     /// The flight that the report is compared with.
-    fn baseline(&mut self, view: &View<'_>, baseline: &Report) {
+    fn baseline(&mut self, view: &View<'_>, before: &View<'_>) {
+        let baseline = before.report;
         self.open("baseline", "{");
         members!(self; whole = Flag(baseline.whole));
         self.flight(baseline);
-        self.counts(baseline.counts.all());
+        self.counts(baseline.counted().all());
+        self.table(view.config, before.config);
+        self.found(view, before);
         each!(self; "links", "[", "]"; index in 0..view.config.links().len() =>
             self.compared(view.compared(index)));
         let ids = (0..=u16::MAX).filter(|id| is_new_outside(view.report, baseline, VlId(*id)));
@@ -399,6 +503,11 @@ pub fn json_of(alloc: Global, shown: &Shown<'_>) -> Result<String, Error> {
         page: Page::new(alloc),
         follows: false,
     };
-    json.report(&view, &serde_json::to_string(alloc, &shown.manifest)?);
+    let before = View::of_baseline(alloc, shown)?;
+    json.report(
+        &view,
+        before.as_ref(),
+        &serde_json::to_string(alloc, &shown.manifest)?,
+    );
     Ok(json.page.into_text()?)
 }

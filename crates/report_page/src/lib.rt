@@ -3,6 +3,8 @@
 //! - [`page_of`]: one HTML page with no script and no link out, which prints on A4.
 //! - [`summary_of`]: what to look at first, in lines of at most 80 columns.
 //! - [`has_sizes`]: whether the ledger tells the sizes of frames.
+//! - [`csv_of`]: its links as comma-separated values.
+//! - [`failing`]: how many findings a report fails on.
 //! - [`json_of`]: the same numbers as one JSON object; docs/REPORT.md has its members.
 //!
 //! Each takes the report of an earlier flight, a baseline, and then tells what got worse.
@@ -30,6 +32,8 @@ macro_rules! fill {
 }
 
 mod charts;
+mod compared;
+mod csv;
 mod cut_command;
 mod finding_list;
 mod json;
@@ -45,8 +49,10 @@ mod text;
 mod view;
 mod writer;
 
+pub use csv::csv_of;
 pub use json::json_of;
 pub use page::page_of;
+pub use ranks::failing;
 pub use sizes::has_sizes;
 pub use summary::summary_of;
 pub use view::Shown;

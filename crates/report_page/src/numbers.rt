@@ -3,6 +3,9 @@
 /// Nanoseconds in a second.
 pub const SECOND: u64 = 1_000_000_000;
 
+/// Nanoseconds in a minute.
+pub const MINUTE: u64 = 60_000_000_000;
+
 /// A quotient, 0 where there is nothing to divide by.
 #[inline]
 pub fn quotient(value: u64, by: u64) -> u64 {

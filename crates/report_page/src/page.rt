@@ -162,10 +162,25 @@ pub fn push_stop(page: &mut Page, stop: LedgerStop) {
         next = Number(stop.lines.saturating_add(1)), lines = Number(stop.lines));
 }
 
+/// The text that was asked for, if it was.
+pub fn asked(text: Option<&str>) -> Part<'_> {
+    text.map_or(Text(""), |text| Given(text))
+}
+
+/// Appends of which part of a ledger the page is, if it is of one.
+fn push_part(page: &mut Page, view: &View<'_>) {
+    let zoom = view.zoom;
+    if zoom.is_part() {
+        fill!(page; text::PART; from = asked(zoom.from), to = asked(zoom.to), link = asked(zoom.link),
+            network = asked(zoom.network), partial = flag(zoom.partial));
+    }
+}
+
 /// Appends what a hole `@name@` of the skeleton stands for.
-fn push_section(page: &mut Page, view: &View<'_>, name: &str) {
+fn push_section(page: &mut Page, view: &View<'_>, before: Option<&View<'_>>, name: &str) {
     match name {
         "filters" => push_filters(page, view),
+        "part" => push_part(page, view),
         "run" => push_run(page, view.manifest),
         "reasons" => push_reasons(page, view),
         "skew" => push_skew(page, view),
@@ -175,15 +190,16 @@ fn push_section(page: &mut Page, view: &View<'_>, name: &str) {
         "timeline" => push_timeline(page, view),
         "links" => push_links(page, view),
         "strips" => push_strips(page, view),
-        "comparison" => push_comparison(page, view),
+        "comparison" => push_comparison(page, view, before),
         _ => match view.report.stop {
+            _ if view.zoom.partial => page.text(text::PARTIAL),
             None => page.text(text::WHOLE),
             Some(stop) => push_stop(page, stop),
         },
     }
 }
 
-/// What ties the table to the ledger.
+/// The words on what ties the table to the ledger.
 fn tie_of(manifest: Option<&Manifest>) -> &'static str {
     match manifest {
         None => text::NOT_TIED,
@@ -193,14 +209,19 @@ fn tie_of(manifest: Option<&Manifest>) -> &'static str {
 }
 
 /// The parts of the skeleton.
-fn parts_of(view: &View<'_>) -> [Named<'static>; 26] {
-    let (report, networks, all) = (view.report, &view.report.networks, view.report.counts.all());
+fn parts_of<'a>(view: &View<'a>) -> [Named<'a>; 27] {
+    let (report, networks, all) = (
+        view.report,
+        &view.report.networks,
+        view.report.counted().all(),
+    );
     let (lost, alone) = (view.total(Lost), view.total(Alone));
     let estimated = estimated_of(view);
     let ends = !is_clean(&report.endings.a) || !is_clean(&report.endings.b);
     let (discards, none) = (discards_of(view), all.frames == 0);
     let [links, trouble, notice, silent, clean] = view.levels();
-    parts! { style = Text(text::STYLE), start = if none { Text("no frames") } else { Utc(report.start) },
+    parts! { style = Text(text::STYLE), title = Given(view.title),
+        start = if none { Text("no frames") } else { Utc(report.start) },
         length = Duration(report.end.saturating_sub(report.start)), rows = Grouped(report.links.len() as u64),
         links, trouble, notice, silent, clean, frames = Grouped(all.frames),
         pair = Both(Pair(networks.a.frames, networks.b.frames)), delivered = Grouped(all.delivered),
@@ -228,13 +249,14 @@ fn estimated_of(view: &View<'_>) -> u64 {
 /// The system is out of memory.
 pub fn page_of(alloc: Global, shown: &Shown<'_>) -> Result<String, AllocError> {
     let view = View::new(alloc, shown)?;
+    let before = View::of_baseline(alloc, shown)?;
     let mut page = Page::new(alloc);
     let parts = parts_of(&view);
     for (at, piece) in text::PAGE.split('@').enumerate() {
         if at % 2 == 0 {
             page.fill(piece, &parts);
         } else {
-            push_section(&mut page, &view, piece);
+            push_section(&mut page, &view, before.as_ref(), piece);
         }
     }
     page.into_text()

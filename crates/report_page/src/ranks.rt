@@ -1,7 +1,7 @@
 //! How bad each link is.
 
 use crate::view::{TROUBLES, counts_of};
-use findings::Level;
+use findings::{Finding, Findings, Level};
 use ledger_report::{LinkReport, Report};
 use std::alloc::{AllocError, Global};
 
@@ -34,6 +34,12 @@ pub fn frames_of(link: &LinkReport) -> u64 {
 pub fn level_at(report: &Report, index: usize) -> Level {
     let level = report.findings.levels.get(index);
     level.map_or(Level::Clean, |level| level.level)
+}
+
+/// How many findings are of this level, or of a worse one.
+pub fn failing(findings: &Findings, level: Level) -> u64 {
+    let of_level = |finding: &&Finding| finding.level as u8 <= level as u8;
+    findings.all.iter().filter(of_level).count() as u64
 }
 
 /// The word of a level.

@@ -1,7 +1,7 @@
 //! What is drawn by time: the timeline of both networks, and the strips of the worst links.
 
 use crate::charts::Kind::{Greatest, Sum};
-use crate::charts::{Classes, Drawing, push_axis, push_intervals, push_row};
+use crate::charts::{Classes, Drawing, Pauses, push_axis, push_events, push_intervals, push_row};
 use crate::numbers::{quotient, share};
 use crate::ranks::mark_of;
 use crate::view::{
@@ -30,6 +30,7 @@ fn sums(height: u64, classes: Classes, per: usize, limit: u64) -> Drawing {
         kind: Sum,
         per,
         limit,
+        pauses: Pauses::OfNone,
     }
 }
 
@@ -91,7 +92,7 @@ fn push_signs(page: &mut Page, view: &View<'_>, (skip, count): (usize, usize), c
     push_absent(page, view, (skip, count));
 }
 
-/// What begins a line of signs that don't occur.
+/// The beginning of a line of signs that don't occur.
 const ABSENT: &str = "<p class=\"none\">none: ";
 
 /// Appends a line that names those that don't.
@@ -118,6 +119,7 @@ fn push_skews(page: &mut Page, view: &View<'_>) {
 
 /// Appends the timeline.
 pub fn push_timeline(page: &mut Page, view: &View<'_>) {
+    push_events(page, view);
     push_frames(page, view);
     if view.sizes {
         push_load(page, view);
@@ -126,7 +128,7 @@ pub fn push_timeline(page: &mut Page, view: &View<'_>) {
     push_signs(page, view, (0, DISCARDS), DISCARDED);
     page.text("<h4>Loss and redundancy</h4>");
     push_signs(page, view, (DISCARDS, LOSSES), FRAMES);
-    if view.report.counts.all().copy > 0 {
+    if view.report.counted().all().copy > 0 {
         push_skews(page, view);
     }
     push_axis(page, view);
@@ -139,7 +141,7 @@ fn push_link_frames(page: &mut Page, view: &View<'_>, link: &LinkReport, per: us
     let (a, b) = (&link.lanes.a, &link.lanes.b);
     let title = "frames per column; dashed: one per BAG";
     let limit = quotient(view.long(per), link.bag).max(1);
-    let drawing = sums(48, FRAMES, per, limit);
+    let drawing = sums(48, FRAMES, per, limit).of(link);
     let texts = ("frames", "dashed: one per BAG", title);
     let peak = push_row(page, view, texts, drawing, (&a.lines, &b.lines));
     end_row(page, Pair(a.frames, b.frames), peak);
@@ -150,7 +152,13 @@ fn push_link_bytes(page: &mut Page, view: &View<'_>, link: &LinkReport, per: usi
     let title = "bytes per column; dashed: Smax per BAG";
     let limit = share(view.long(per), u64::from(link.smax), link.bag).max(1);
     let texts = ("bytes", "dashed: Smax per BAG", title);
-    let peak = push_row(page, view, texts, sums(36, FRAMES, per, limit), series);
+    let peak = push_row(
+        page,
+        view,
+        texts,
+        sums(36, FRAMES, per, limit).of(link),
+        series,
+    );
     fill!(page; "<small>peak $percent$ %</small></span></div>"; percent = Number(share(peak, 100, limit)));
 }
 
@@ -177,7 +185,8 @@ fn push_link_intervals(
         return;
     }
     let texts = (label, "dashed: BAG &#177; J", INTERVALS_TITLE);
-    push_intervals(page, view, texts, sums(36, (class, ""), per, 0), link, lane);
+    let drawing = sums(36, (class, ""), per, 0).of(link);
+    push_intervals(page, view, texts, drawing, link, network);
     fill!(page; INTERVALS; least = Millionths(lane.least), most = Millionths(lane.greatest),
         mean = Millionths(quotient(lane.interval_sum, lane.intervals)),
         early = Grouped(lane.signs.of(Anomaly::Early).count));
@@ -186,7 +195,7 @@ fn push_link_intervals(
 fn push_link_skews(page: &mut Page, view: &View<'_>, link: &LinkReport, per: usize) {
     let title = "greatest skew of a copy per column";
     let texts = ("skew", "up: A came second<br/>dashed: SkewMax", title);
-    let drawing = skews(44, per, link.skew_max);
+    let drawing = skews(44, per, link.skew_max).of(link);
     push_row(page, view, texts, drawing, (&link.skews.a, &link.skews.b));
     fill!(page; "$median$<small>median; most $most$</small></span></div>";
         median = Duration(link.skew_median), most = Duration(greatest_skew(link)));
@@ -201,13 +210,14 @@ fn push_link_sign(page: &mut Page, view: &View<'_>, link: &LinkReport, sign: Ano
     }
     let is_discard = SIGNS.iter().take(DISCARDS).any(|discard| *discard == sign);
     let classes = if is_discard { DISCARDED } else { FRAMES };
-    let (texts, drawing) = ((sign.word(), "", "per column"), sums(20, classes, per, 0));
+    let texts = (sign.word(), "", "per column");
+    let drawing = sums(20, classes, per, 0).of(link);
     push_row(page, view, texts, drawing, (&a.bins, &b.bins));
     let [n, at, number] = first_parts(view, first_of(link, sign));
     fill!(page; FIRST; counts = Both(counts), n, at, number);
 }
 
-const FIRST: &str = "$counts$$?n$<small>from $at$ s ($n$ #$number$)</small>$/$</span></div>";
+const FIRST: &str = "$counts$$?n$<small>from $at$ ($n$ #$number$)</small>$/$</span></div>";
 
 /// Appends the rows of a link.
 fn push_link_rows(page: &mut Page, view: &View<'_>, link: &LinkReport, per: usize) {
@@ -225,7 +235,7 @@ fn push_link_rows(page: &mut Page, view: &View<'_>, link: &LinkReport, per: usiz
     }
 }
 
-/// What a link has beside its rows.
+/// The facts of a link beside its rows.
 const FACTS: &str = "\
 <p class=\"facts\">lost on both networks: $lost$\
 $?a$ &#183; an excess on A came $a$ sooner than BAG less jitter$/$\

@@ -21,16 +21,16 @@ const AT_ONCE: i64 = 100_000_000;
 // which it happened, `@outside@` links outside the table, `@ending@` how a recording ends.
 
 const SILENCE: &str = "\
-$b$$?two$Networks A and B$/$$?one$Network $n$$/$ silent$e$ for $long$, from $from$ s to $to$ s: \
+$b$$?two$Networks A and B$/$$?one$Network $n$$/$ silent$e$ for $long$, from $from$ to $to$: \
 $?least$at least $/$$lost$ numbers of $links$ links are missing$?est$ ($est$ of them estimated)$/$";
 
 const CLOCK_STEP: &str = "\
-$b$$?two$The clocks of A and B$/$$?one$The clock of $n$$/$ went forward by $size$$e$ at $from$ s\
+$b$$?two$The clocks of A and B$/$$?one$The clock of $n$$/$ went forward by $size$$e$ at $from$\
 $?two$ (or all senders paused)$/$: no silence, and no frame is missing for that ($links$ links go on with \
 the next number)$?late$; $late$ frames are late by it$/$$?lost$; $lost$ numbers seem missing by it$/$";
 
 const SKEW_STEP: &str = "\
-$b$The skew of all links steps by $size$$e$ at $from$ s: $n$'s clock went forward, $o$'s back, or $n$'s path \
+$b$The skew of all links steps by $size$$e$ at $from$: $n$'s clock went forward, $o$'s back, or $n$'s path \
 became longer$?late$; $late$ frames are late by it$/$";
 
 const DRIFT: &str = "\
@@ -42,7 +42,7 @@ $b$All timestamps are multiples of $size$$e$: what jitter, skew and policing say
 frames excess, $early$ early, $late$ late by that)";
 
 const BROKEN: &str = "\
-$b$Recording $n$ ends: @ending@$e$, at $from$ s$?unrecorded$; $unrecorded$ frames of $o$ have no copy \
+$b$Recording $n$ ends: @ending@$e$, at $from$$?unrecorded$; $unrecorded$ frames of $o$ have no copy \
 after it$/$";
 
 const BEGINS: &str = "\
@@ -71,10 +71,9 @@ const UNCONFIGURED: &str = "\
 $b$$count$ frame$s$ on $n$ $are$ of links outside the table$e$ (unconfigured): @outside@";
 
 const LOST: &str = "\
-$?two$$b$Numbers are missing$e$ from $from$ s to $to$ s: $?least$at least $/$$lost_a$ on A, $lost_b$ on B, \
+$?two$$b$Numbers are missing$e$ from $from$ to $to$: $?least$at least $/$$lost_a$ on A, $lost_b$ on B, \
 $both$ of them on both: @who@$/$\
-$?one$$b$$?least$at least $/$$count$ number$s$ $are$ missing on $n$$e$, scattered from $from$ s to $to$ \
-s: @who@\
+$?one$$b$$?least$at least $/$$count$ number$s$ $are$ missing on $n$$e$, scattered from $from$ to $to$: @who@\
 $?alone$; $alone$ of them came on $o$$/$$?both$; $both$ came on neither network$/$$/$";
 
 const ABSENT: &str = "\
@@ -88,17 +87,17 @@ time$s$$/$ \
 (@spans@)$?anew$, and begin anew with number 0$/$: the numbers go on, so the sender paused";
 
 const STOPS: &str =
-    "$b$@who@ $?single$stops$/$$?several$stop$/$ at $from$ s$e$ on both networks$?usual$ (usual \
+    "$b$@who@ $?single$stops$/$$?several$stop$/$ at $from$$e$ on both networks$?usual$ (usual \
 interval $usual$)$/$";
 
 const STOPS_ON: &str = "\
-$b$@who@ not seen on $n$ after $from$ s$e$; $alone$ frames came on $o$ only";
+$b$@who@ not seen on $n$ after $from$$e$; $alone$ frames came on $o$ only";
 
 const STARTS_LATE: &str = "\
-$b$@who@ $?single$starts$/$$?several$start$/$ at $to$ s$e$$?single$, with number $first$$/$";
+$b$@who@ $?single$starts$/$$?several$start$/$ at $to$$e$$?single$, with number $first$$/$";
 
 const STARTS_LATE_ON: &str = "\
-$b$@who@ first seen on $n$ at $to$ s$e$; $alone$ frames before it came on $o$ only";
+$b$@who@ first seen on $n$ at $to$$e$; $alone$ frames before it came on $o$ only";
 
 const NEVER: &str = "$b$In the table, never seen:$e$ @who@";
 
@@ -109,21 +108,21 @@ $b$The last byte of @who@ on $n$ is no sequence number$e$: it is nearly always t
 $?toolong$, and all are longer than Smax: does the tap append bytes, as a check sequence?$/$";
 
 const RATE: &str = "\
-$b$@who@: the usual interval changes$e$ at $from$ s$?single$ from $before$ to $after$$/$";
+$b$@who@: the usual interval changes$e$ at $from$$?single$ from $before$ to $after$$/$";
 
 const BAG: &str = "\
 $b$@who@ breaks its BAG$e$$?single$ (BAG $bag$, jitter $jitter$$?usual$, usual interval $usual$$/$)$/$: \
-$early$ frames early, $excess$ excess, from $from$ s to $to$ s";
+$early$ frames early, $excess$ excess, from $from$ to $to$";
 
 const BUNCHED: &str = "\
 $b$Frames of @who@ bunch on $n$$e$, not on $o$: $early$ early, $excess$ excess, $late$ late, from $from$ \
-s to $to$ s: delayed in this network, or by its recorder's clock";
+to $to$: delayed in this network, or by its recorder's clock";
 
 const TOO_LONG: &str = "\
-$b$$count$ of $frames$ frames of @who@ on $n$ are longer than Smax$e$ (toolong), from $from$ s to $to$ s";
+$b$$count$ of $frames$ frames of @who@ on $n$ are longer than Smax$e$ (toolong), from $from$ to $to$";
 
 const RESET: &str = "\
-$b$@who@: number 0 $count$ time$s$$e$, from $from$ s to $to$ s\
+$b$@who@: number 0 $count$ time$s$$e$, from $from$ to $to$\
 $?wraps$: always after 255, so the sender counts 255, 0$/$$?begins$: the sender began anew$/$";
 
 const STRAY: &str = "\
@@ -131,48 +130,47 @@ $?inplace$$b$$count$ frame$s$ of @who@ on $n$ $have$ a wrong number$e$ (bit erro
 place of \
 the right one, which is missing$/$$?extra$$b$$count$ frame$s$ of @who@ on $n$ $have$ a number out of \
 order$e$, and \
-the numbers go on without it: bit errors, misaddressed or old frames$/$, from $from$ s to $to$ s";
+the numbers go on without it: bit errors, misaddressed or old frames$/$, from $from$ to $to$";
 
 const OLD: &str = "\
 $?inplace$$b$$count$ frame$s$ of @who@ on $n$ $have$ a wrong number$e$ (bit errors, or old frames) in the \
 place of the right one, which is missing$/$$?extra$$b$$count$ frame$s$ of @who@ on $n$ $have$ an old number \
 again$e$$/$, from \
-$from$ s to $to$ s";
+$from$ to $to$";
 
 const TWICE: &str = "\
-$b$$count$ frame$s$ on $n$ $come$ twice$e$, at most $most$ apart, from $from$ s to $to$ s: @who@\
+$b$$count$ frame$s$ on $n$ $come$ twice$e$, at most $most$ apart, from $from$ to $to$: @who@\
 $?every$: recorded twice, or both networks in one recording?$/$";
 
 const STUCK: &str =
-    "$b$The number of @who@ stands still on $n$$e$, from $from$ s to $to$ s: $count$ frame$s$";
+    "$b$The number of @who@ stands still on $n$$e$, from $from$ to $to$: $count$ frame$s$";
 
 const REORDERED: &str = "\
-$b$$count$ frame$s$ of @who@ on $n$ came after the next ones$e$, from $from$ s to $to$ s: no number is \
+$b$$count$ frame$s$ of @who@ on $n$ came after the next ones$e$, from $from$ to $to$: no number is \
 missing for that";
 
 const LATE: &str = "\
 $b$$count$ frame$s$ of @who@ came on $n$ later than SkewMax$e$ ($skew_max$), and $are$ delivered twice, \
-from $from$ s \
-to $to$ s: $most$ at most$?skew$, usually $skew$$/$";
+from $from$ to $to$: $most$ at most$?skew$, usually $skew$$/$";
 
 const SKEW_MOVES: &str = "\
-$b$The skew of @who@ moves$e$ at $from$ s, of one from $before$ to $after$: another path on one network\
+$b$The skew of @who@ moves$e$ at $from$, of one from $before$ to $after$: another path on one network\
 $?late$; $late$ frames are late by it$/$";
 
 const APART: &str = "\
-$b$@who@: the networks count apart$e$ from $from$ s on$?single$ (A's number is B's and $size_number$)$/$\
+$b$@who@: the networks count apart$e$ from $from$ on$?single$ (A's number is B's and $size_number$)$/$\
 $?late$; $late$ frames are delivered twice by that$/$";
 
 const JUMP: &str = "\
-$b$@who@ on $n$: the numbers jump $count$ time$s$$e$, from $from$ s to $to$ s, and go on from there";
+$b$@who@ on $n$: the numbers jump $count$ time$s$$e$, from $from$ to $to$, and go on from there";
 
 const SKIPPED: &str = "\
-$b$@who@ skips $count$ number$s$ on $n$$e$, from $from$ s to $to$ s, but no frame is missing: the \
+$b$@who@ skips $count$ number$s$ on $n$$e$, from $from$ to $to$, but no frame is missing: the \
 interval stays";
 
-const OUT: &str = "$b$$count$ frame$s$ of @who@ on $n$ $are$ out$e$, from $from$ s to $to$ s";
+const OUT: &str = "$b$$count$ frame$s$ of @who@ on $n$ $are$ out$e$, from $from$ to $to$";
 
-const OTHER: &str = "$b$@who@: $count$ $word$ on $n$$e$, from $from$ s to $to$ s";
+const OTHER: &str = "$b$@who@: $count$ $word$ on $n$$e$, from $from$ to $to$";
 
 const REST: &str = "and $count$ more: $word$";
 
@@ -276,7 +274,7 @@ fn parts_of_signs(finding: &Finding) -> [Named<'static>; 12] {
         unrecorded = sum(Word::Unrecorded), frames = Grouped(finding.frames) }
 }
 
-/// What a finding says beside them.
+/// The facts of a finding beside its signs, by name.
 fn parts_of_facts(finding: &Finding) -> [Named<'static>; 12] {
     let facts = &finding.facts;
     let single = finding.links.len() == 1;
@@ -293,7 +291,7 @@ fn parts_of_facts(finding: &Finding) -> [Named<'static>; 12] {
         single = flag(single), several = flag(!single), inplace = flag(in_place), extra = flag(!in_place) }
 }
 
-/// What it says of how often and of which links.
+/// The words on how often it happened and to which links, by name.
 fn parts_of_links(finding: &Finding) -> [Named<'static>; 13] {
     let rate = finding.rate.as_ref().filter(|_| finding.links.len() == 1);
     let time = |of: Option<u64>| of.map_or(Text(""), |time| Duration(time));
@@ -328,7 +326,7 @@ fn push_who(page: &mut Page, view: &View<'_>, finding: &Finding, linked: bool) {
 
 /// Appends a span of time.
 fn push_span(page: &mut Page, view: &View<'_>, at: usize, span: Span) {
-    fill!(page; "$?follows$, $/$$from$ s to $to$ s"; follows = flag(at > 0),
+    fill!(page; "$?follows$, $/$$from$ to $to$"; follows = flag(at > 0),
         from = view.after_start(span.from.0), to = view.after_start(span.to.0));
 }
 

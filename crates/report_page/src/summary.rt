@@ -1,15 +1,17 @@
 //! The first part of the report as lines for a terminal.
 
-use crate::page::push_stop;
+use crate::compared::{REVISIONS, is_new, is_only_in, is_revised, links_for, only_in};
+use crate::page::{asked, push_stop};
 use crate::ranks::word_of;
 use crate::sentences::push_sentence;
-use crate::tables::{count_word, worse_word};
+use crate::tables::{change_word, count_word, worse_word};
 use crate::view::{Shown, View, links_word};
-use crate::writer::Page;
-use crate::writer::Part::{Number, Text, Thousandths};
+use crate::writer::Part::{Duration, Number, Since, Text, Thousandths};
+use crate::writer::{Page, Part, flag};
 use findings::{Finding, Level};
-use ledger_report::{LinkComparison, WORSE, Worse};
+use ledger_report::{CHANGES, LinkComparison, LinkNumbers, WORSE, Worse};
 use std::alloc::{AllocError, Global};
+use vl_config::Config;
 
 /// How many findings are told.
 const FINDINGS: usize = 20;
@@ -20,19 +22,35 @@ const COLUMNS: usize = 80;
 
 const LEVEL_COLUMNS: usize = 9;
 
+const PART: &str = "\
+a part:$?from$ from $from$$/$$?to$ to $to$$/$$?link$ links $link$$/$$?network$ network $network$$/$\
+$?partial$ lines of cut --ledger-only$/$\n";
+
+/// Appends of which part of a ledger the text is, if it is of one.
+fn push_part(page: &mut Page, view: &View<'_>) {
+    let zoom = view.zoom;
+    if zoom.is_part() {
+        fill!(page; PART; from = asked(zoom.from), to = asked(zoom.to), link = asked(zoom.link),
+            network = asked(zoom.network), partial = flag(zoom.partial));
+    }
+}
+
 fn push_head(page: &mut Page, view: &View<'_>) {
-    let all = view.report.counts.all();
-    fill!(page; "length $length$ s, frames $frames$, delivered $delivered$, copies $copies$\n";
-        length = view.since(view.report.end), frames = Number(all.frames), delivered = Number(all.delivered),
-        copies = Number(all.copy));
+    push_part(page, view);
+    let all = view.report.counted().all();
+    fill!(page; "length $length$, frames $frames$, delivered $delivered$, copies $copies$\n";
+        length = Since(view.report.end.saturating_sub(view.report.start)), frames = Number(all.frames),
+        delivered = Number(all.delivered), copies = Number(all.copy));
     let [links, trouble, notice, silent, clean] = view.levels();
-    fill!(page; "links $links$: $trouble$ in trouble, $notice$ notice, $silent$ never seen, $clean$ clean\n";
-        links, trouble, notice, silent, clean);
+    fill!(page; LINKS; links, trouble, notice, silent, clean);
     if let Some(stop) = view.report.stop {
         push_stop(page, stop);
         page.text("\n");
     }
 }
+
+const LINKS: &str = "\
+links $links$: $trouble$ in trouble, $notice$ with a notice, $silent$ never seen, $clean$ clean\n";
 
 /// Appends a text in lines, those after the first indented as the level's word is wide.
 fn push_wrapped(page: &mut Page, text: &str) {
@@ -54,6 +72,7 @@ fn push_wrapped(page: &mut Page, text: &str) {
 /// Appends a finding.
 fn push_finding(page: &mut Page, alloc: Global, view: &View<'_>, finding: &Finding) {
     let mut text = Page::plain(alloc);
+    text.text(if is_new(view, finding) { "new: " } else { "" });
     push_sentence(&mut text, view, finding, ("", ""), false);
     page.level(word_of(finding.level));
     push_wrapped(page, text.written());
@@ -66,8 +85,8 @@ fn beyond(view: &View<'_>, level: Level) -> u64 {
 }
 
 const MORE: &str = "\
-and $more$ more:$?trouble$ $trouble$ trouble$/$$?notice$ $notice$ notice$/$$?silent$ $silent$ silent$/$\
-$?info$ $info$ info$/$\n";
+and $more$ more, by level:$?trouble$ trouble $trouble$$/$$?notice$ notice $notice$$/$\
+$?silent$ silent $silent$$/$$?info$ info $info$$/$\n";
 
 const NOTHING: &str = "\
 Nothing found: each number, interval, skew and verdict was looked at. A ledger\n\
@@ -110,6 +129,77 @@ fn push_worse(page: &mut Page, view: &View<'_>, link: &LinkComparison, name: &st
     page.text("\n");
 }
 
+/// Appends how many findings are new since the baseline, and those that are gone.
+fn push_gone(page: &mut Page, alloc: Global, view: &View<'_>, before: &View<'_>) {
+    let (today, then) = (&view.report.findings, &before.report.findings);
+    fill!(page; "findings new since the baseline: $new$, gone: $gone$\n"; new = Number(only_in(today, then)),
+        gone = Number(only_in(then, today)));
+    for finding in then
+        .all
+        .iter()
+        .filter(|one| is_only_in(one, today))
+        .take(FINDINGS)
+    {
+        let mut text = Page::plain(alloc);
+        push_sentence(&mut text, before, finding, ("", ""), false);
+        page.level("gone");
+        push_wrapped(page, text.written());
+    }
+}
+
+/// Appends how many links of the tables differ, if some do.
+fn push_revisions(page: &mut Page, today: &Config, before: &Config) {
+    for &how in &REVISIONS {
+        let links = links_for(today, before, how).iter();
+        let links = links.filter(|link| is_revised(today, before, how, link.id));
+        fill!(page; "$?links$links $word$ in the table: $links$\n$/$"; links = Number(links.count() as u64),
+            word = Text(how.word()));
+    }
+}
+
+/// A link's frames a second.
+fn rate_part(numbers: Option<LinkNumbers>) -> Part<'static> {
+    match numbers.and_then(|numbers| numbers.rate()) {
+        Some(rate) => Thousandths(rate),
+        None => Text("-"),
+    }
+}
+
+/// A link's median skew.
+fn skew_part(numbers: Option<LinkNumbers>) -> Part<'static> {
+    match numbers.and_then(|numbers| numbers.skew_median) {
+        Some(skew) => Duration(skew),
+        None => Text("-"),
+    }
+}
+
+/// Appends the line of a link that is otherwise, and not worse.
+fn push_changed(page: &mut Page, link: &LinkComparison, name: &str) {
+    page.columns("changed", u64::from(link.link.0));
+    fill!(page; " $name$"; name = Text(name));
+    for how in CHANGES.iter().filter(|how| link.is_changed(**how)) {
+        fill!(page; " $word$"; word = Text(change_word(*how)));
+    }
+    fill!(page; ": frames/s $today$ baseline $before$"; today = rate_part(link.today),
+        before = rate_part(link.baseline));
+    fill!(page; ", skew $today$ baseline $before$\n"; today = skew_part(link.today),
+        before = skew_part(link.baseline));
+}
+
+/// Appends a line for each of the first links that are otherwise than in the baseline, and not worse.
+fn push_changes(page: &mut Page, view: &View<'_>) {
+    let changed = view.changed_links();
+    fill!(page; "links otherwise than in the baseline: $changed$\n"; changed = Number(changed as u64));
+    let ranks = view.ranks.iter().filter(|rank| view.is_changed(rank.index));
+    for rank in ranks.take(WORSE_LINKS) {
+        if let Some((link, configured)) = view.compared(rank.index) {
+            push_changed(page, &link, &configured.name);
+        }
+    }
+    let more = changed.saturating_sub(WORSE_LINKS) as u64;
+    fill!(page; "$?more$and $more$ more $links$\n$/$"; more = Number(more), links = links_word(more));
+}
+
 /// Appends a line for each of the first links that got worse since the baseline.
 fn push_comparison(page: &mut Page, view: &View<'_>) {
     let worse = view.worse_links();
@@ -135,8 +225,11 @@ pub fn summary_of(alloc: Global, shown: &Shown<'_>) -> Result<String, AllocError
     let view = View::new(alloc, shown)?;
     let mut page = Page::plain(alloc);
     push_head(&mut page, &view);
-    if shown.baseline.is_some() {
+    if let Some(before) = View::of_baseline(alloc, shown)? {
+        push_revisions(&mut page, view.config, before.config);
         push_comparison(&mut page, &view);
+        push_changes(&mut page, &view);
+        push_gone(&mut page, alloc, &view, &before);
     }
     push_findings(&mut page, alloc, &view);
     page.into_text()

@@ -2,8 +2,12 @@
 
 use crate::charts::Stair::{Above, Below};
 use crate::charts::{Columns, Kind, push_stair};
+use crate::compared::{
+    REVISIONS, Revision, count_of, is_first, is_only_in, is_revised, links_for, only_in,
+};
 use crate::numbers::share;
 use crate::ranks::{LEVELS, Rank, frames_of, level_at, mark_of, word_of};
+use crate::sentences::push_sentence;
 use crate::view::{ROWS, TROUBLES, View, counts_of, greatest_skew, has_strip};
 use crate::writer::Part::{
     self, Both, Cell, Duration, Grouped, Millionths, Milliseconds, Number, Tenths, Text,
@@ -11,16 +15,19 @@ use crate::writer::Part::{
 };
 use crate::writer::{Page, Pair, flag};
 use afdx_frame::Network;
-use findings::Level;
+use findings::{Findings, Level};
 use ledger_report::Anomaly::{self, Alone, Early, Excess, Late, Lost, Out, TooLong};
-use ledger_report::{COUNTS, Count, LinkNumbers, LinkReport, WORSE, Worse};
+use ledger_report::{
+    CHANGES, COUNTS, Change, Count, LinkComparison, LinkNumbers, LinkReport, WORSE, Worse,
+};
+use vl_config::Config;
 
 /// How many links a row of the map has.
 const MAP_COLUMNS: usize = 128;
 /// How many links in trouble without a row are named.
 const NAMED: usize = 512;
 
-/// What stands in the place of a number that isn't known.
+/// The mark in the place of a number that isn't known.
 const UNKNOWN: Part<'static> = Text("&#8211;");
 
 /// The beginning of a drawing of activity.
@@ -105,8 +112,8 @@ fn push_link(page: &mut Page, view: &View<'_>, rank: &Rank, strip: bool) {
     let Some((link, configured)) = view.link(rank.index) else {
         return;
     };
-    fill!(page; LINK; level = Text(word_of(rank.level)), mark = Text(mark_of(rank.level)), strip = flag(strip),
-        id = Number(u64::from(configured.id.0)), name = Text(&configured.name));
+    fill!(page; LINK; level = Text(word_of(rank.level)), mark = Text(mark_of(rank.level)),
+        strip = flag(strip), id = Number(u64::from(configured.id.0)), name = Text(&configured.name));
     if frames_of(link) > 0 {
         push_spark(page, view, link);
     }
@@ -116,7 +123,9 @@ fn push_link(page: &mut Page, view: &View<'_>, rank: &Rank, strip: bool) {
 
 /// The head of the table.
 const TITLES: &str = "\
-<div class=\"scroll\"><table><thead><tr><th></th><th class=\"r\">id</th><th>link</th>\
+<p class=\"wide\">Where the window is narrower than the table, the table scrolls: to the right are more \
+columns.</p><div class=\"scroll\" tabindex=\"0\"><table><thead><tr><th></th><th class=\"r\">id</th>\
+<th>link</th>\
 <th>activity<small>A over B, signs under it</small></th>\
 <th class=\"p\">frames</th><th class=\"r\">BAG<small>ms</small></th>\
 <th class=\"r\">least<small>ms apart</small></th><th class=\"r ms\">most<small>ms apart</small></th>\
@@ -149,6 +158,16 @@ fn square_of(level: Level) -> (&'static str, u64, u64) {
     }
 }
 
+/// The words on so many links of a level.
+fn square_word(level: Level) -> &'static str {
+    match level {
+        Level::Trouble => "in trouble",
+        Level::Notice => "with a notice",
+        Level::Silent => "never seen",
+        Level::Info | Level::Clean => "clean",
+    }
+}
+
 /// Appends the squares of a level, where links are by rising identifier.
 fn push_squares(page: &mut Page, view: &View<'_>, level: Level) {
     let (class, inset, side) = square_of(level);
@@ -175,7 +194,7 @@ fn push_map(page: &mut Page, view: &View<'_>) {
         links = Grouped(links as u64), columns = Number(MAP_COLUMNS as u64));
     for &level in &LEVELS {
         fill!(page; ", <svg class=\"mk $mark$</svg> $count$ $word$"; mark = Text(mark_of(level)),
-            count = Grouped(view.count_of(level)), word = Text(word_of(level)));
+            count = Grouped(view.count_of(level)), word = Text(square_word(level)));
     }
     let height = links.div_ceil(MAP_COLUMNS).saturating_mul(10) as u64;
     fill!(page; "</h3><svg class=\"rest\" viewBox=\"0 0 $width$ $height$\">";
@@ -226,12 +245,23 @@ pub fn worse_word(how: Worse) -> &'static str {
     }
 }
 
+/// The word of a way to be otherwise: that of the count that changed.
+pub fn change_word(how: Change) -> &'static str {
+    match how {
+        Change::Rate => "rate",
+        Change::Skew => "skew",
+        Change::Share(count) => count_word(count),
+    }
+}
+
 /// The title of the section on a baseline, and of the columns of its table.
 const COMPARISON: &str = "\
 <section><h2>Compared with the baseline <small>today over baseline, whose t = 0 is $start$, \
 with $frames$ frames in $length$; $worse$ of $links$ links got worse: a count did where it is at least \
-3 more, and more than twice as many by frame</small></h2>\
-<div class=\"scroll\"><table><thead><tr><th class=\"r\">id</th><th>link</th><th>worse</th>\
+3 more, and more than twice as many by frame; $changed$ more are otherwise: in rate by more than a quarter, \
+in median skew to more than twice or less than half and by 10 &#181;s, or in a count to less than half\
+</small></h2>@findings@@tables@\
+<div class=\"scroll\"><table><thead><tr><th class=\"r\">id</th><th>link</th><th>otherwise</th>\
 <th class=\"r\">frames<small>by second</small></th><th class=\"r\">copies</th>\
 <th class=\"r\">least<small>ms apart</small></th><th class=\"r\">skew<small>&#181;s, most</small></th>";
 
@@ -261,6 +291,18 @@ fn cells_of(numbers: Option<LinkNumbers>) -> [Part<'static>; 4] {
     ]
 }
 
+/// Appends in which ways a link is otherwise, but not worse.
+fn push_changes(page: &mut Page, link: &LinkComparison) {
+    page.text("<i>");
+    for how in CHANGES.iter().filter(|how| link.is_changed(**how)) {
+        let is_told = matches!(how, Change::Share(count) if link.is_worse(Worse::Grew(*count)));
+        if !is_told {
+            fill!(page; "$word$ "; word = Text(change_word(*how)));
+        }
+    }
+    page.text("</i>");
+}
+
 /// Appends the row of a link beside that of the baseline.
 fn push_compared(page: &mut Page, view: &View<'_>, index: usize) {
     let Some((link, configured)) = view.compared(index) else {
@@ -271,6 +313,7 @@ fn push_compared(page: &mut Page, view: &View<'_>, index: usize) {
     for how in WORSE.iter().filter(|how| link.is_worse(**how)) {
         fill!(page; "$word$ "; word = Text(worse_word(*how)));
     }
+    push_changes(page, &link);
     page.text("</td>");
     let (cells, past) = (cells_of(link.today), cells_of(link.baseline));
     for (today, before) in cells.iter().zip(past.iter()) {
@@ -283,11 +326,14 @@ fn push_compared(page: &mut Page, view: &View<'_>, index: usize) {
     page.text("</tr>");
 }
 
-/// Appends the rows of the first links that got worse, or of the first others, so many at most.
-fn push_rows(page: &mut Page, view: &View<'_>, is_worse: bool, most: usize) {
+/// Is a link worse, else otherwise, than in the baseline?
+type Group = (bool, bool);
+
+/// Appends the rows of the first links of a group, so many at most.
+fn push_rows(page: &mut Page, view: &View<'_>, group: Group, most: usize) {
     let ranks = view.ranks.iter();
     for rank in ranks
-        .filter(|rank| view.is_worse(rank.index) == is_worse)
+        .filter(|rank| (view.is_worse(rank.index), view.is_changed(rank.index)) == group)
         .take(most)
     {
         push_compared(page, view, rank.index);
@@ -295,21 +341,116 @@ fn push_rows(page: &mut Page, view: &View<'_>, is_worse: bool, most: usize) {
 }
 
 /// Appends the section, where there is a baseline: links that got worse first.
-pub fn push_comparison(page: &mut Page, view: &View<'_>) {
-    let Some(baseline) = view.baseline else {
+pub fn push_comparison(page: &mut Page, view: &View<'_>, before: Option<&View<'_>>) {
+    let Some(before) = before else {
         return;
     };
+    let baseline = before.report;
     let (links, worse) = (view.ranks.len(), view.worse_links());
-    fill!(page; COMPARISON; start = Utc(baseline.start), frames = Grouped(baseline.counts.all().frames),
+    let changed = view.changed_links();
+    let parts =
+        parts! { start = Utc(baseline.start), frames = Grouped(baseline.counted().all().frames),
         length = Duration(baseline.end.saturating_sub(baseline.start)), worse = Grouped(worse as u64),
-        links = Grouped(links as u64));
+        changed = Grouped(changed as u64), links = Grouped(links as u64) };
+    for (at, piece) in COMPARISON.split('@').enumerate() {
+        match (at, piece) {
+            (1, _) => push_gone(page, view, before),
+            (3, _) => push_revisions(page, view.config, before.config),
+            _ => page.fill(piece, &parts),
+        }
+    }
+    push_compared_links(page, view, links, (worse, changed));
+}
+
+/// How many findings of the baseline that are gone have a line.
+const GONE: usize = 24;
+
+/// Appends the findings that the baseline has alone, and how many of each kind there are in both.
+fn push_gone(page: &mut Page, view: &View<'_>, before: &View<'_>) {
+    let (today, then) = (&view.report.findings, &before.report.findings);
+    fill!(page; FOUND; new = Number(only_in(today, then)), gone = Number(only_in(then, today)));
+    push_kinds(page, today, then, true);
+    push_kinds(page, then, today, false);
+    page.text("</p>");
+    for finding in then
+        .all
+        .iter()
+        .filter(|one| is_only_in(one, today))
+        .take(GONE)
+    {
+        page.text("<p class=\"ids\">gone: ");
+        push_sentence(page, before, finding, ("<b>", "</b>"), false);
+        page.text("</p>");
+    }
+}
+
+const FOUND: &str = "\
+<p class=\"ids\">Findings new since the baseline: $new$, gone: $gone$. By kind, today over baseline:";
+
+/// Appends how many findings of each kind there are: of the kinds of today, or of those of the baseline
+/// alone.
+fn push_kinds(page: &mut Page, own: &Findings, others: &Findings, is_today: bool) {
+    for (at, finding) in own.all.iter().enumerate() {
+        let (here, there) = (count_of(own, finding.kind), count_of(others, finding.kind));
+        if is_first(own, at) && (is_today || there == 0) {
+            let (today, then) = if is_today {
+                (here, there)
+            } else {
+                (there, here)
+            };
+            fill!(page; " &#183; $word$ $today$/$then$"; word = Text(finding.kind.word()),
+                today = Grouped(today), then = Grouped(then));
+        }
+    }
+}
+
+/// How many links of a revision are named.
+const REVISED: usize = 24;
+
+/// Appends in which links the tables differ.
+fn push_revisions(page: &mut Page, today: &Config, before: &Config) {
+    for &how in &REVISIONS {
+        push_revision(page, today, before, how);
+    }
+}
+
+/// Appends the links in which the tables differ so.
+fn push_revision(page: &mut Page, today: &Config, before: &Config, how: Revision) {
+    let mut named = 0usize;
+    let links = links_for(today, before, how).iter();
+    for link in links.filter(|link| is_revised(today, before, how, link.id)) {
+        if named == 0 {
+            fill!(page; "<p class=\"ids\">Links of the table $word$:"; word = Text(how.word()));
+        }
+        if named < REVISED {
+            fill!(page; " $id$ $name$"; id = Number(u64::from(link.id.0)), name = Text(&link.name));
+        }
+        named = named.saturating_add(1);
+    }
+    let more = named.saturating_sub(REVISED) as u64;
+    fill!(page; "$?more$ and $more$ more$/$$?some$</p>$/$"; more = Number(more), some = flag(named > 0));
+}
+
+/// Appends the heads of the counts' columns, and the rows: those that got worse first.
+fn push_compared_links(
+    page: &mut Page,
+    view: &View<'_>,
+    links: usize,
+    (worse, changed): (usize, usize),
+) {
     for &count in &COUNTS {
         let word = Text(count_word(count));
         fill!(page; "<th class=\"r\">$word$<small>in 1000 frames</small></th>"; word);
     }
     page.text("</tr></thead><tbody>");
-    push_rows(page, view, true, ROWS);
-    push_rows(page, view, false, ROWS.saturating_sub(worse));
+    push_rows(page, view, (true, false), ROWS);
+    push_rows(page, view, (false, true), ROWS.saturating_sub(worse));
+    push_rows(
+        page,
+        view,
+        (false, false),
+        ROWS.saturating_sub(worse).saturating_sub(changed),
+    );
     let more = Grouped(links.saturating_sub(ROWS) as u64);
     fill!(page; "</tbody></table></div>$?more$<p class=\"ids\">and $more$ more links</p>$/$</section>"; more);
 }

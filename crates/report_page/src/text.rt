@@ -6,19 +6,20 @@ pub const PAGE: &str = "\
 <!doctype html><html lang=\"en\"><head><meta charset=\"utf-8\"/>
 <meta http-equiv=\"Content-Security-Policy\" content=\"default-src 'none';style-src 'unsafe-inline'\"/>
 <meta name=\"viewport\" content=\"width=device-width,initial-scale=1\"/>
-<title>AFDX recording, $start$</title><style>$style$</style></head><body>\
-<header><h1>AFDX recording</h1><p>$start$ <b>t = 0</b> &#183; $length$ &#183; $rows$ links \
-&#183; ledger version 2@filters@</p>@run@\
+<title>$title$, $start$</title><style>$style$</style></head><body>\
+<header><h1>$title$</h1><p>$start$ <b>t = 0</b> &#183; $length$ &#183; $rows$ links \
+&#183; ledger version 2@filters@</p>@part@@run@\
 <p class=\"key\"><span class=\"sw a\"></span>A, drawn upwards \
 <span class=\"sw b\"></span>B, drawn downwards \
-<span class=\"sw si\"></span>network silent <span class=\"sw nr\"></span>nothing \
-recorded &#183; pairs of numbers are \
+<span class=\"sw si\"></span>network silent <span class=\"sw st\"></span>clock step \
+<span class=\"sw ou\"></span>link pauses <span class=\"sw nr\"></span>nothing recorded &#183; \
+pairs of numbers are \
 <span class=\"a\">A</span><i>/</i><span class=\"b\">B</span> &#183; #n is the frame's \
 number in that recording, from 0</p></header>\
 <div class=\"tiles\">\
 <div class=\"tile$?trouble$ hot$/$\"><h3>Links</h3><p class=\"big\">$trouble$\
 <small> of $links$ in trouble</small></p><p class=\"sub\">\
-$notice$ notice &#183; $silent$ never seen &#183; $clean$ clean</p></div>\
+$notice$ with a notice &#183; $silent$ never seen &#183; $clean$ clean</p></div>\
 <div class=\"tile\"><h3>Frames</h3><p class=\"big\">$frames$</p><p class=\"sub\">$pair$ on A / on B</p></div>\
 <div class=\"tile\"><h3>Delivered</h3><p class=\"big\">$delivered$</p>\
 <p class=\"sub\">$copies$ copies taken off</p></div>\
@@ -37,7 +38,7 @@ $notice$ notice &#183; $silent$ never seen &#183; $clean$ clean</p></div>\
 @timeline@</section>\
 <section><h2>Links, worst first <small>$trouble$ in trouble \
 (as the worst finding that names the link says), \
-$notice$ notice, $silent$ never seen, $clean$ clean</small></h2>@links@</section>\
+$notice$ with a notice, $silent$ never seen, $clean$ clean</small></h2>@links@</section>\
 <section class=\"dets\"><h2>Links in trouble</h2>@strips@</section>@comparison@\
 <section class=\"leg\"><h2>Words and rules</h2><div class=\"lgs\">\
 <div class=\"lg\"><h4>Class: the first that fits</h4><dl>\
@@ -90,7 +91,7 @@ $?sha256$, SHA-256 <code>$sha256$</code>$/$";
 pub const ONE_FILE: &str = "\
 $?sha256$<br/>$word$, file $number$ <b>$path$</b>: $bytes$ bytes, SHA-256 <code>$sha256$</code>$/$";
 
-/// What the page says where it has no manifest, and where it has one.
+/// The page's words on a report without a manifest, and with one.
 pub const NOT_TIED: &str = "Table and ledger were not tied: no manifest of the run was given. ";
 
 pub const TIED: &str =
@@ -103,10 +104,20 @@ pub const STOP: &str = "\
 The ledger isn't whole: its run was stopped, or goes on. It ends \
 $?within$within line $next$$/$$?without$without its total$/$; whole lines: $lines$. ";
 
-/// What the page says of a ledger that is whole.
+/// The page's words on a part of a ledger.
+pub const PART: &str = "\
+<p class=\"part\"><b>A part of the flight:</b>$?from$ from $from$$/$$?to$ to $to$$/$$?link$ links $link$$/$\
+$?network$ network $network$$/$$?partial$ lines that afdxmon cut --ledger-only wrote$/$. Numbers and \
+findings are those of these lines alone.</p>";
+
+/// The page's words on a ledger where lines of frames are left out.
+pub const PARTIAL: &str = "\
+The ledger is a part, without lines of counts to compare with: copies whose delivery is left out are taken. ";
+
+/// The page's words on a ledger that is whole.
 pub const WHOLE: &str = "The lines of counts agree with the lines of frames. ";
 
-/// What the page says where the ledger doesn't tell sizes, and where it does.
+/// The page's words on a ledger that doesn't tell sizes, and on one that does.
 pub const NO_SIZES: &str = "\
 No filter of the table takes every frame whole, so the ledger doesn't tell sizes: loads are left out. ";
 
@@ -118,10 +129,12 @@ pub const SIZES: &str =
 pub const STYLE: &str =
     r#":root{color-scheme:light dark;--bg:#fbfbf9;--card:#fff;--ink:#17202a;--dim:#5d6873;--line:#dde1e4;
 --faint:#eceeef;--a:#0b66b2;--b:#c4560a;--alarm:#a3195b;--note:#8a6d00;--ok:#7d8b94;--skew:#66727c;
---deliv:#4b6b7a;--sil:rgba(163,25,91,.20);--nr:rgba(93,104,115,.20)}
+--deliv:#4b6b7a;--sil:rgba(163,25,91,.20);--nr:rgba(93,104,115,.20);--st:rgba(138,109,0,.42);
+--ou:rgba(75,107,122,.36)}
 @media screen and (prefers-color-scheme:dark){:root{--bg:#12171c;--card:#1a2128;--ink:#e8ecef;
 --dim:#9aa6b0;--line:#323c45;--faint:#262f37;--a:#5fb0f2;--b:#f49a4d;--alarm:#ff86bb;--note:#e3c34a;
---ok:#71808a;--skew:#93a1ac;--deliv:#86a9ba;--sil:rgba(255,134,187,.24);--nr:rgba(154,166,176,.22)}}
+--ok:#71808a;--skew:#93a1ac;--deliv:#86a9ba;--sil:rgba(255,134,187,.24);--nr:rgba(154,166,176,.22);
+--st:rgba(227,195,74,.42);--ou:rgba(134,169,186,.36)}}
 *{box-sizing:border-box}body{margin:0 auto;padding:22px 26px;max-width:1440px;background:var(--bg);
 color:var(--ink);font:14px/1.4 system-ui,"Segoe UI",Roboto,"Helvetica Neue","Liberation Sans",
 sans-serif;font-variant-numeric:tabular-nums}h1{font-size:24px;margin:0;letter-spacing:-.01em}
@@ -133,7 +146,9 @@ i{font-style:normal;color:var(--dim)}.a{color:var(--a)}.b{color:var(--b)}.z{colo
 opacity:.75}.key .sw{display:inline-block;width:18px;height:11px;margin:0 5px 0 10px;
 border-radius:2px;vertical-align:-1px}.key .sw:first-child{margin-left:0}.sw.a{background:var(--a)}
 .sw.b{background:var(--b)}.sw.si{background:var(--sil);border-bottom:2px solid var(--alarm)}
-.sw.nr{background:var(--nr)}.tiles{display:grid;grid-template-columns:repeat(4,1fr);gap:12px;
+.new{color:var(--alarm);font-weight:600}.part{margin-top:4px}
+.sw.nr{background:var(--nr)}.sw.st{background:var(--st)}
+.sw.ou{background:var(--ou)}.tiles{display:grid;grid-template-columns:repeat(4,1fr);gap:12px;
 margin-top:18px}.tile{background:var(--card);border:1px solid var(--line);
 border-top:3px solid var(--ok);border-radius:6px;padding:10px 14px 11px;min-width:0}
 .tile.hot{border-top-color:var(--alarm)}.tile h3{font-size:12px;font-weight:600;color:var(--dim)}
@@ -149,7 +164,8 @@ stroke-width:1}.bar .ks{fill:var(--ink);stroke:none}.kc{fill:var(--ok)}.kd{fill:
 vector-effect:non-scaling-stroke}.zl{stroke:var(--dim);fill:none;stroke-width:1;
 vector-effect:non-scaling-stroke;opacity:.55}.lim{stroke:var(--ink);fill:none;stroke-width:1;
 stroke-dasharray:4 3;vector-effect:non-scaling-stroke;opacity:.6}.si{fill:var(--sil)}
-.nr{fill:var(--nr)}.mt{fill:var(--alarm)}.g{display:block;width:100%;height:var(--h)}
+.nr{fill:var(--nr)}.st{fill:var(--st)}.ou{fill:var(--ou)}.mt{fill:var(--alarm)}
+.g{display:block;width:100%;height:var(--h)}
 .sl{stroke:var(--alarm);stroke-width:2;vector-effect:non-scaling-stroke;fill:none}.mk{width:11px;
 height:11px;flex:none}.mk.t{fill:var(--alarm)}.mk.n{fill:var(--note)}.mk.s{fill:none;
 stroke:var(--ink);stroke-width:1.6}.mk.c{fill:var(--ok)}.find{list-style:none;margin:0;padding:0;
@@ -171,7 +187,13 @@ min-width:2.3em;text-align:right}td.p .b{text-align:left}td:nth-child(5) .a,
 td:nth-child(5) .b{min-width:3.2em}td.id,.det .id{color:var(--dim)}.nm{font-weight:600}
 .spk{width:210px;min-width:130px}.w{color:var(--alarm);font-weight:700}.ub{width:38px;height:6px;
 margin-right:6px;background:var(--faint)}tr.clean .nm,tr.silent .nm{font-weight:400}
-.scroll{overflow-x:auto}.rest{width:100%;display:block;margin-top:6px}.mh{font-size:13px;
+.scroll{overflow-x:auto;scrollbar-width:thin;background:
+linear-gradient(90deg,var(--bg) 50%,transparent) 0 0/36px 100% no-repeat local,
+linear-gradient(270deg,var(--bg) 50%,transparent) 100% 0/36px 100% no-repeat local,
+linear-gradient(90deg,var(--dim),transparent) 0 0/14px 100% no-repeat scroll,
+linear-gradient(270deg,var(--dim),transparent) 100% 0/14px 100% no-repeat scroll}
+.scroll::-webkit-scrollbar{height:9px}.scroll::-webkit-scrollbar-thumb{background:var(--dim);
+border-radius:5px}.wide{display:none}.rest{width:100%;display:block;margin-top:6px}.mh{font-size:13px;
 font-weight:400;margin-top:14px}.ids{font-size:12px;color:var(--dim);margin-top:6px}
 .det{background:var(--card);border:1px solid var(--line);border-radius:6px;
 padding:12px 16px 8px 6px;margin-bottom:14px;break-inside:avoid}.det h3{font-size:15px;display:flex;
@@ -186,8 +208,9 @@ color:var(--dim)}@media screen and (max-width:1000px){body{padding:16px}
 .tiles{grid-template-columns:repeat(2,1fr)}.find{columns:1}
 .row{grid-template-columns:96px 1fr 116px;gap:8px}.lb small{font-size:10px}.none,.facts,
 .tl h4{margin-left:104px}.rl{display:block}td,th{padding:2px 4px}table{font-size:11.5px}
-th{font-size:11px}.spk{width:96px;min-width:80px}.ms{display:none}td.p .a,
-td.p .b{min-width:0!important}td i{padding:0 1px}.ub{display:none}.lgs{columns:1}.pp{margin-left:0}}
+th{font-size:11px}.spk{width:96px;min-width:80px}td.p .a,
+td.p .b{min-width:0!important}td i{padding:0 1px}.ub{display:none}.lgs{columns:1}.pp{margin-left:0}
+.wide{display:block;font-size:12px;color:var(--dim)}}
 @media screen and (max-width:600px){.ax b:nth-child(even){display:none}}
 @media print{@page{size:A4;margin:11mm}.tl .g{height:calc(var(--h)*.58)}
 .det .g{height:calc(var(--h)*.8)}.sp{height:20px!important}header p{margin-top:1px}

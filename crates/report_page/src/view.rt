@@ -1,12 +1,14 @@
 //! What the page's parts share.
 
-use crate::numbers::quotient;
+use crate::numbers::{MINUTE, quotient};
 use crate::ranks::{LEVELS, Rank, ranks_of};
 use crate::writer::{Pair, Part};
 use afdx_frame::{Network, VlId};
 use findings::Level;
 use ledger_report::Anomaly::{self, Alone, Excess, Late, Lost, Out, TooLong};
-use ledger_report::{BINS, FramePlace, LinkComparison, LinkReport, Report, WORSE, comparison_at};
+use ledger_report::{
+    BINS, CHANGES, FramePlace, LinkComparison, LinkReport, Report, WORSE, comparison_at,
+};
 use run_manifest::{Manifest, RecordingRecord};
 use std::alloc::{AllocError, Global};
 use vl_config::{Config, Link};
@@ -15,6 +17,9 @@ use vl_config::{Config, Link};
 pub const ROWS: usize = 64;
 
 pub const STRIPS: usize = 12;
+
+/// A flight is long that takes more than an hour.
+const LONG: u64 = 60 * MINUTE;
 
 /// All signs, the reasons to discard a frame first.
 pub const SIGNS: [Anomaly; 14] = [
@@ -45,6 +50,29 @@ pub const TROUBLES: [Anomaly; 6] = [TooLong, Excess, Out, Lost, Late, Alone];
 /// Both networks.
 pub const NETWORKS: [Network; 2] = [Network::A, Network::B];
 
+/// Which part of a ledger a report is about, as it was asked for.
+#[derive(Clone, Copy)]
+pub struct Zoom<'a> {
+    pub from: Option<&'a str>,
+    pub to: Option<&'a str>,
+    pub link: Option<&'a str>,
+    pub network: Option<&'a str>,
+    /// Does the ledger lack lines of frames, as `cut --ledger-only` writes it?
+    pub partial: bool,
+}
+
+impl Zoom<'_> {
+    /// Is the report about a part of a flight?
+    pub fn is_part(&self) -> bool {
+        self.is_asked() || self.partial
+    }
+
+    /// Is a part asked for?
+    pub fn is_asked(&self) -> bool {
+        self.from.is_some() || self.to.is_some() || self.link.is_some() || self.network.is_some()
+    }
+}
+
 /// A report, and what it is shown with.
 #[derive(Clone, Copy)]
 pub struct Shown<'a> {
@@ -55,10 +83,24 @@ pub struct Shown<'a> {
     pub sizes: bool,
     /// The manifest of the ledger's run, if it is known.
     pub manifest: Option<&'a Manifest>,
-    /// The report of an earlier flight against the same table, if there is one.
+    /// The report of an earlier flight, if there is one; its table, where it was judged by another one; and
+    /// the path of its ledger.
     pub baseline: Option<&'a Report>,
+    pub baseline_config: Option<&'a Config>,
+    pub baseline_ledger: Option<&'a str>,
     /// The path of the ledger.
     pub ledger: &'a str,
+    /// The title of the page.
+    pub title: &'a str,
+    /// Which part of the ledger the report is about, as it was asked for.
+    pub from: Option<&'a str>,
+    pub to: Option<&'a str>,
+    pub link: Option<&'a str>,
+    pub network: Option<&'a str>,
+    /// Does the ledger lack lines of frames, as `cut --ledger-only` writes it?
+    pub partial: bool,
+    /// The least level of the findings that it fails on, if it does.
+    pub fail_on: Option<Level>,
 }
 
 /// How many bins a report uses.
@@ -80,10 +122,13 @@ pub struct View<'a> {
     pub sizes: bool,
     /// The links, worst first.
     pub ranks: Vec<Rank>,
-    /// The report of an earlier flight, against the same table.
+    /// The report of an earlier flight.
     pub baseline: Option<&'a Report>,
     pub manifest: Option<&'a Manifest>,
     pub ledger: &'a str,
+    pub title: &'a str,
+    pub zoom: Zoom<'a>,
+    pub fail_on: Option<Level>,
 }
 
 /// The path of a recording; the name of none where it isn't known.
@@ -92,7 +137,7 @@ fn path_of<'a>(recording: Option<&'a RecordingRecord>, unknown: &'static str) ->
 }
 
 impl<'a> View<'a> {
-    /// What a page shows of a report.
+    /// The view of a report.
     ///
     /// # Errors
     ///
@@ -104,8 +149,24 @@ impl<'a> View<'a> {
             sizes,
             manifest,
             baseline,
+            baseline_config: _,
+            baseline_ledger: _,
             ledger,
+            title,
+            from,
+            to,
+            link,
+            network,
+            partial,
+            fail_on,
         } = *shown;
+        let zoom = Zoom {
+            from,
+            to,
+            link,
+            network,
+            partial,
+        };
         let used = bins_used(report);
         Ok(View {
             report,
@@ -117,7 +178,33 @@ impl<'a> View<'a> {
             baseline,
             manifest,
             ledger,
+            title,
+            zoom,
+            fail_on,
         })
+    }
+
+    /// The view of the baseline's own report, if there is one.
+    ///
+    /// # Errors
+    ///
+    /// `AllocError` if there is no memory for it.
+    pub fn of_baseline(alloc: Global, shown: &Shown<'a>) -> Result<Option<View<'a>>, AllocError> {
+        let Some(report) = shown.baseline else {
+            return Ok(None);
+        };
+        let own = Shown {
+            report,
+            config: shown.baseline_config.unwrap_or(shown.config),
+            manifest: None,
+            baseline: None,
+            ledger: shown.baseline_ledger.unwrap_or(shown.ledger),
+            ..*shown
+        };
+        match View::new(alloc, &own) {
+            Ok(view) => Ok(Some(view)),
+            Err(error) => Err(error),
+        }
     }
 
     /// The paths of the recordings, or names for them.
@@ -129,6 +216,7 @@ impl<'a> View<'a> {
         )
     }
 
+    /// The path of the recording of network B.
     pub fn path_b(&self) -> &'a str {
         path_of(
             self.manifest
@@ -142,9 +230,23 @@ impl<'a> View<'a> {
         self.report.start.saturating_add_signed(time)
     }
 
+    /// Is the flight so long that its times need UTC too?
+    pub fn is_long(&self) -> bool {
+        self.report.end.saturating_sub(self.report.start) > LONG
+    }
+
+    /// A moment, so long after the first line: of a long flight in UTC too.
+    fn moment(&self, since: u64) -> Part<'static> {
+        if self.is_long() {
+            Part::Moment(self.report.start.saturating_add(since), since)
+        } else {
+            Part::Since(since)
+        }
+    }
+
     /// A time since the first line.
     pub fn after_start(&self, time: i64) -> Part<'static> {
-        Part::Seconds(u64::try_from(time).unwrap_or(0))
+        self.moment(u64::try_from(time).unwrap_or(0))
     }
 
     /// How long the flight is.
@@ -178,7 +280,7 @@ impl<'a> View<'a> {
 
     /// How many frames each filter accepted: that of `--filter`, and those of the table.
     pub fn filters(&self) -> &'a [u64] {
-        let accepted = self.report.counts.filters();
+        let accepted = self.report.counted().filters();
         let filters = self.config.filters().len().saturating_add(1);
         &accepted[..filters.min(accepted.len())]
     }
@@ -191,7 +293,7 @@ impl<'a> View<'a> {
 
     /// The time from the first line to a timestamp.
     pub fn since(&self, stamp: u64) -> Part<'static> {
-        Part::Seconds(stamp.saturating_sub(self.report.start))
+        self.moment(stamp.saturating_sub(self.report.start))
     }
 
     /// A link's report and its configuration.
@@ -222,6 +324,19 @@ impl<'a> View<'a> {
     pub fn compared(&self, index: usize) -> Option<(LinkComparison, &'a Link)> {
         let compared = comparison_at(self.report, self.baseline?, index);
         compared.zip(self.config.links().get(index))
+    }
+
+    /// Is a link otherwise than in the baseline, and not worse?
+    pub fn is_changed(&self, index: usize) -> bool {
+        let compared = self.compared(index);
+        let changed = |link: LinkComparison| CHANGES.iter().any(|how| link.is_changed(*how));
+        !self.is_worse(index) && compared.is_some_and(|(link, _)| changed(link))
+    }
+
+    /// How many links are otherwise than in the baseline, and not worse.
+    pub fn changed_links(&self) -> usize {
+        let changed = self.ranks.iter().filter(|rank| self.is_changed(rank.index));
+        changed.count()
     }
 
     /// Did a link get worse since the baseline?

@@ -1,6 +1,6 @@
 //! What a page is written with.
 
-use crate::numbers::{SECOND, quotient, rounded, share};
+use crate::numbers::{MINUTE, SECOND, quotient, rounded, share};
 use afdx_frame::Network;
 use jiff::Timestamp;
 use std::alloc::{AllocError, Global};
@@ -22,7 +22,7 @@ impl Pair {
     }
 }
 
-/// What stands in a hole of a template.
+/// The filling of a hole of a template.
 #[derive(Clone, Copy)]
 pub enum Part<'a> {
     Text(&'a str),
@@ -48,10 +48,14 @@ pub enum Part<'a> {
     Duration(u64),
     /// Nanoseconds in milliseconds, rounded to three digits.
     Milliseconds(u64),
-    /// Nanoseconds as seconds, rounded to three decimals.
-    Seconds(u64),
+    /// Nanoseconds since the first line, as seconds with their unit.
+    Since(u64),
+    /// A moment of a long flight: its timestamp, and the nanoseconds since the first line.
+    Moment(u64, u64),
     /// Nanoseconds as seconds, with as many decimals as they need, at most three.
     Tick(u64),
+    /// The hour and the minute of a timestamp, in UTC.
+    Clock(u64),
     /// A timestamp in UTC, as `cut --from` takes it.
     Utc(u64),
     Both(Pair),
@@ -77,7 +81,7 @@ impl Part<'_> {
     }
 }
 
-/// What is blank where this doesn't hold.
+/// The text, or nothing where this doesn't hold.
 pub fn flag(holds: bool) -> Part<'static> {
     Part::Text(if holds { "yes" } else { "" })
 }
@@ -131,12 +135,12 @@ impl Page {
         }
     }
 
-    /// What was written so far.
+    /// The text that was written so far.
     pub fn written(&self) -> &str {
         &self.written
     }
 
-    /// What was written.
+    /// The text that was written.
     ///
     /// # Errors
     ///
@@ -203,8 +207,8 @@ impl Page {
         }
     }
 
-    /// Appends a template. `$name$` is the part of that name, and what stands between `$?name$` and its `$/$` is
-    /// left out where that part is blank.
+    /// Appends a template. `$name$` is the part of that name, and what stands between `$?name$` and its
+    /// `$/$` is left out where that part is blank.
     pub fn fill(&mut self, template: &str, parts: &[Named<'_>]) {
         for (at, piece) in template.split('$').enumerate() {
             let part = part_of(parts, name_in(at, piece));
@@ -266,8 +270,10 @@ impl Page {
             Part::Millionths(value) => self.decimal(value / 10_000, 100, 2),
             Part::Duration(value) => self.duration(value),
             Part::Milliseconds(value) => self.three_digits(value, 1_000_000),
-            Part::Seconds(value) => self.decimal(rounded(value, 1, 1_000_000), 1000, 3),
+            Part::Since(value) => self.since(value),
+            Part::Moment(stamp, since) => self.moment(stamp, since),
             Part::Tick(value) => self.short(value / 1_000_000),
+            Part::Clock(stamp) => self.clock(stamp),
             Part::Utc(stamp) => self.utc(stamp),
             Part::Both(counts) => self.both(counts),
             Part::Cell(None) => self.text("<td class=\"p z\">off</td>"),
@@ -389,6 +395,28 @@ impl Page {
         self.three_digits(value, unit);
         self.text(if self.plain { " " } else { "&#8239;" });
         self.text(name);
+    }
+
+    fn since(&mut self, value: u64) {
+        self.decimal(rounded(value, 1, 1_000_000), 1000, 3);
+        self.text(" s");
+    }
+
+    /// Appends the time of day, and in brackets the seconds since the first line, as `cut --from` takes both.
+    fn moment(&mut self, stamp: u64, since: u64) {
+        self.clock(stamp);
+        self.text(":");
+        self.number(quotient(stamp, SECOND) % 60, 2);
+        self.text(" (+");
+        self.decimal(rounded(since, 1, 100_000_000), 10, 1);
+        self.text(" s)");
+    }
+
+    fn clock(&mut self, stamp: u64) {
+        let minutes = quotient(stamp, MINUTE) % 1440;
+        self.number(minutes / 60, 2);
+        self.text(":");
+        self.number(minutes % 60, 2);
     }
 
     fn utc(&mut self, stamp: u64) {

@@ -135,7 +135,7 @@ impl LinkState {
         }
     }
 
-    /// What was counted as the start of a recording is taken back, and given to an account.
+    /// Takes back the signs that were counted as the start of a recording, and gives them to an account.
     pub fn give_start(&mut self, flight: &mut Flight, to: Handle) -> Result<(), AllocError> {
         let Some(begun) = self.begun.take() else {
             return Ok(());

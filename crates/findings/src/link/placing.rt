@@ -379,7 +379,7 @@ impl LinkState {
         }
     }
 
-    /// What was missing on both networks came on this one after all.
+    /// Moves numbers that were missing on both networks and came on this one after all.
     fn move_to_alone(
         &mut self,
         flight: &mut Flight,
