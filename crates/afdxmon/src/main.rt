@@ -1,25 +1,27 @@
 //! `afdxmon`: analyses recordings of AFDX networks (ARINC 664 Part 7).
 //!
-//! The program reads its command line, hands it to the course of its command and tells how that ended. What
-//! a command does stands in the crates of `analyser`, with its contract.
+//! The program reads its command line, hands it to its command and tells how that ended. What a command does
+//! stands in the crates below: `watch_run`, `cut_run`, `capture_run`, `filter_run`, and `commands`.
 #![tactic(auto)]
 
 mod watcher;
 mod watching;
 
-use analyser::{CommandLine, Exit, Fault, FileOption, Invocation, USAGE, gathered, read_arguments};
 use clap::Error;
-use command_line::{Typed, has_standard_among};
+use command_line::{
+    CommandLine, Exit, FAILED, Fault, FileOption, Invocation, Typed, USAGE, gathered,
+    has_standard_among, read_arguments,
+};
 use commands::{
     arguments, asm, capture, check, cut, debug, links, refuse_streams, report, summarise,
 };
-use messages::{Known, STANDARD_AMONG, tell};
-use std::io;
+use messages::{CommandEnd, STANDARD_AMONG, tell};
 use std::io::{ErrorKind, IsTerminal};
 use std::process::ExitCode;
 use std::sync::Wait;
 use std::sync::atomic::{AtomicBool, Ordering};
 use std::thread::Threads;
+use std::{env, io};
 use tap_inputs::{NO_RUN, Outcome, Taps, print, status_of, takes_messages};
 use watcher::Reporter;
 use watching::watch;
@@ -98,7 +100,7 @@ fn run<R: Threads + Wait + Sync>(
 
 /// Tells standard error how a command ended.
 fn tell_end(rt: &HostRuntime, asked: Invocation<'_>, taps: &Taps, outcome: &Outcome, full: bool) {
-    let known = Known {
+    let known = CommandEnd {
         outcome,
         taps,
         full,
@@ -138,6 +140,23 @@ fn carry_out<R: Threads + Wait + Sync>(
     outcome.exit
 }
 
+/// Does the environment ask for what `--verbose` asks for?
+fn is_verbose(rt: &HostRuntime) -> bool {
+    match env::var(rt, "AFDXMON_VERBOSE") {
+        Ok(value) => value.as_str() == "1",
+        Err(_) => false,
+    }
+}
+
+/// The exit status. A strict run fails where a recording ends early.
+fn status(command: Invocation<'_>, exit: &Exit) -> u8 {
+    let strict = matches!(command, Invocation::Watch(given) if given.strict);
+    match status_of(exit) {
+        0 if strict && exit.is_early() => FAILED,
+        status => status,
+    }
+}
+
 fn main(rt: HostRuntime) -> ExitCode {
     // Where standard error can't be written, the status alone tells how the program ended.
     let arguments = match gathered_arguments(&rt) {
@@ -152,7 +171,13 @@ fn main(rt: HostRuntime) -> ExitCode {
         return ExitCode::from(USAGE);
     }
     let status = match read_arguments(rt.alloc(), &arguments) {
-        Ok(asked) => status_of(&carry_out(&rt, &rt, asked)),
+        Ok(asked) => {
+            let asked = CommandLine {
+                verbose: asked.verbose || is_verbose(&rt),
+                ..asked
+            };
+            status(asked.command, &carry_out(&rt, &rt, asked))
+        }
         Err(answer) => print_answer(&rt, &answer, &arguments),
     };
     ExitCode::from(status)

@@ -1,13 +1,15 @@
 //! Watches a run over two recordings: what was written is handed to the system before the program waits for
 //! more, and a fault is told before the program waits for its threads.
 use afdx_frame::Network;
-use analyser::{Fault, Invocation, RunObserver, WatchArguments, WatchFault};
+use command_line::{Fault, Invocation, WatchArguments};
 use filter_workers::RunGate;
-use messages::{Known, tell};
+use messages::{CommandEnd, tell};
+use run_fault::{Output, WatchFault};
 use std::io;
 use std::sync::atomic::{AtomicBool, Ordering};
 use tap_inputs::{Cause, Outcome, Pauses, Progress, SharedBlocks, Taps};
 use tap_queue::TapGate;
+use watch_run::RunObserver;
 
 /// Who tells standard error of a run.
 #[derive(Drop)]
@@ -56,11 +58,11 @@ impl<'a> Watcher<'a> {
     }
 
     /// Hands the system what was written to both outputs. Which doesn't take it, and why?
-    fn hand_over(&self) -> Result<(), (analyser::Output, io::Error)> {
+    fn hand_over(&self) -> Result<(), (Output, io::Error)> {
         let capture = self.capture.hand_over();
         let ledger = self.ledger.hand_over();
-        capture.map_err(|error| (analyser::Output::Capture, error))?;
-        ledger.map_err(|error| (analyser::Output::Ledger, error))
+        capture.map_err(|error| (Output::Capture, error))?;
+        ledger.map_err(|error| (Output::Ledger, error))
     }
 
     /// Tells standard error of the first fault, and for which reason an output wasn't written.
@@ -79,7 +81,7 @@ impl<'a> Watcher<'a> {
             cause: refused.map(|error| Cause::System(error)),
             ..Outcome::from(Fault::Watch(fault))
         };
-        let known = Known {
+        let known = CommandEnd {
             outcome: &outcome,
             taps: self.taps,
             full: self.reporter.full,

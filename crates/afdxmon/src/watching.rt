@@ -1,17 +1,16 @@
-//! The course of `watch`: two recordings judged and filtered, on threads.
+//! The command `watch`: two recordings judged and filtered, on threads.
 use crate::watcher::{Reporter, Watcher};
 use afdx_frame::Network;
-use analyser::{
-    Exit, Fault, FileOption, Invocation, Plan, RunSizes, Summary, WatchArguments, WatchRefused,
-    Watched, load_filters, read_config, sized_watch,
-};
 use bpf_loader::Program;
+use command_line::{Exit, Fault, FileOption, Invocation, Summary, WatchArguments};
 use commands::{
     LedgerWriter, MAX_LATE, RunSums, Spans, TextSums, blocks_of, create, create_hashed, file_in,
     format_of, is_at_terminal, refuse_shared, shared, text_of, with_manifest, worst_links,
 };
 use pcap_io::WriteSink;
 use pcapng::Interfaces;
+use run_fault::WatchRefused;
+use run_inputs::{load_filters, read_config};
 use run_manifest::sum_of;
 use std::sync::Wait;
 use std::thread;
@@ -21,6 +20,7 @@ use tap_inputs::{
     Taps, end_of, files_of, open_tap,
 };
 use vl_config::Config;
+use watch_run::{Plan, RunSizes, Watched, sized_watch};
 
 /// A filter that accepts no frame.
 const NO_FRAME: &str = "1,6 0 0 0,";
@@ -84,7 +84,7 @@ type CaptureSink = WriteSink<Blocks>;
 /// The ledger of `watch`.
 type LedgerSink = WriteSink<LedgerWriter>;
 
-/// What is known of a recording of a run, if the run gave it back.
+/// The knowledge of a recording of a run, if the run gave it back.
 fn end_if_back(rt: &HostRuntime, files: Option<TapFiles<'_>>) -> Option<TapEnd> {
     Some(end_of(rt, files?))
 }
@@ -155,7 +155,7 @@ fn settle<'p>(
     (ended, RunSums::new(read, sums, ledger.into_spans()))
 }
 
-/// What a run over two recordings is given: the arguments, the table, and the filters.
+/// The inputs of a run over two recordings: the arguments, the table, and the filters.
 #[derive(Clone, Copy)]
 struct Analysis<'a> {
     given: &'a WatchArguments<'a>,

@@ -41,7 +41,7 @@ fn insn_of(labels: &Labels<'_>, at: usize, statement: &Statement<'_>) -> Result<
     Ok(insn.unwrap())
 }
 
-/// Whether a program may have as many statements.
+/// True if a program may have as many statements.
 fn check_count(statements: &[Statement<'_>]) -> Result<(), AsmFault>
     ensures count { OnOk result (HasCount (map statement_of statements.now)) }
     ensures fault { IfErr result (IsCountFault (map statement_of statements.now)) }

@@ -77,7 +77,7 @@ fn scratch(mnemonic: Mnemonic, k: u32) -> Option<Insn>
     }
 }
 
-/// What an arithmetic instruction computes.
+/// The operation of an arithmetic instruction.
 fn operator_of(mnemonic: Mnemonic) -> Option<Operator>
     ensures { option_map operator_code result ≡ alu_code mnemonic }
 {

@@ -1,6 +1,6 @@
 //! Commands are values, so that a program can send them without any text.
 
-/// What to do next. Frames and instructions are counted from 0.
+/// The next thing to do. Frames and instructions are counted from 0.
 #[derive(Clone, Copy, PartialEq, Eq)]
 pub enum Command {
     /// Selects a frame, and shows the state before the first step.

@@ -109,7 +109,7 @@ fn number_of(word: &[u8]) -> Option<u32>
     }
 }
 
-/// Whether the word is one digit or more, and nothing else.
+/// True if the word is one digit or more, and nothing else.
 fn is_number(word: &[u8]) -> bool
     ensures { result ≡ is_number word.now }
 {

@@ -19,8 +19,8 @@ pub(crate) struct Slot {
     pub(crate) value: u32,
 }
 
-/// What one step of the machine overwrites: the pc, A and X, and the value of the scratch memory slot
-/// that a store changes. No step changes more.
+/// The values that one step of the machine overwrites: the pc, A and X, and the value of the scratch memory
+/// slot that a store changes. No step changes more.
 #[derive(Drop)]
 pub struct Undo {
     pub(crate) pc: usize,

@@ -7,7 +7,7 @@ use bpf_isa::{Outcome, State};
 use std::alloc::{AllocError, Global};
 use std::fmt::Write;
 
-/// What a command replies.
+/// The replies to commands.
 #[derive(PartialEq, Eq, Drop)]
 pub enum Reply {
     /// The position after a move.
@@ -21,7 +21,7 @@ pub enum Reply {
     Breakpoint {
         /// The index of the instruction.
         at: u32,
-        /// Whether the breakpoint is set now.
+        /// True if the breakpoint is set now.
         set: bool,
     },
     /// The program as source, a line for each instruction.

@@ -181,7 +181,7 @@ fn reply_at(walk: &Walk) -> Reply
     }
 }
 
-/// Whether the filter accepts the frame: its return value isn't 0.
+/// True if the filter accepts the frame: its return value isn't 0.
 fn accepts(program: &Program, frame: &TapFrame) -> bool
     ensures { result ≡ accepts program.now frame.now }
 {

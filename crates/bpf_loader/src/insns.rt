@@ -114,7 +114,7 @@ fn is_return(packed: Packed) -> bool
     }
 }
 
-/// Whether the last instruction is a return.
+/// True if the last instruction is a return.
 pub(crate) fn ends_in_return(insns: &[Packed]) -> bool
     ensures { result ≡ ends_in_return insns.now }
 {

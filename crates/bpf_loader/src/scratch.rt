@@ -32,7 +32,7 @@ fn stored_slot(insn: Insn) -> Option<u32>
     }
 }
 
-/// Whether the mask has the slot.
+/// True if the mask has the slot.
 fn has_stored(mask: u16, slot: u32) -> bool
     requires { slot < SCRATCH_SLOTS }
     ensures { MatchBool result (bit_at mask slot ≡ 1) (bit_at mask slot ≡ 0) }

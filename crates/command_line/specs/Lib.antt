@@ -1,3 +1,4 @@
 pub mod Lateness
 pub mod Moment
 pub mod Numbers
+pub mod Selections

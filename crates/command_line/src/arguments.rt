@@ -4,9 +4,10 @@ use crate::lateness::{Lateness, read_lateness};
 use crate::misuse::Misuse;
 use crate::options::{named_command, whole_command};
 use clap::{ArgMatches, Error};
+use icd_links::GivenHeads;
 use std::alloc::{AllocError, Global};
 
-/// What the arguments ask for.
+/// The request that the arguments make.
 #[derive(Clone, Copy, PartialEq, Eq)]
 pub enum Invocation<'a> {
     /// Copy the frames of a recording that a filter accepts.
@@ -27,7 +28,7 @@ pub enum Invocation<'a> {
     Check(CheckArguments<'a>),
 }
 
-/// What a command line asks for.
+/// The request of a command line.
 #[derive(Clone, Copy, PartialEq, Eq)]
 pub struct CommandLine<'a> {
     pub command: Invocation<'a>,
@@ -85,6 +86,8 @@ pub struct WatchArguments<'a> {
     pub workers: u8,
     /// Is a terminal to be told of faults and notes alone?
     pub quiet: bool,
+    /// Does a recording that ends early make the run fail?
+    pub strict: bool,
     /// Is the capture a pcapng file, whose packets have their verdicts as comments?
     pub pcapng: bool,
     /// How late a timestamp may be, in place of what the table says.
@@ -147,8 +150,19 @@ pub struct LinksArguments<'a> {
     /// The text of the constant field that the links' frames have, a number of 32 bits. Without it the
     /// draft has the most common one.
     pub constant: Option<&'a str>,
-    /// The document that specifies links, comma-separated values.
+    /// The document that specifies links, separated values.
     pub icd: Option<&'a str>,
+    /// Which heads its columns have, where they aren't the usual ones.
+    pub columns: GivenHeads<'a>,
+}
+
+/// Which findings make a report fail.
+#[derive(Clone, Copy, PartialEq, Eq)]
+pub enum FailOn {
+    /// Those of level trouble.
+    Trouble,
+    /// These, and those of level notice.
+    Notice,
 }
 
 /// A table and a ledger, and the page or the numbers that are written of them. `-` is standard input or
@@ -161,15 +175,28 @@ pub struct ReportArguments<'a> {
     pub ledger: &'a str,
     /// The manifest of the ledger's run, if it is known.
     pub manifest: Option<&'a str>,
-    /// The ledger of an earlier flight that the ledger is compared with, of the same table.
+    /// The ledger of an earlier flight that the ledger is compared with.
     pub baseline: Option<&'a str>,
+    /// The table of that flight, where it was another one.
+    pub baseline_config: Option<&'a str>,
+    /// The part of the ledger that it is about: a first moment, a last one, links, a network.
+    pub from: Option<&'a str>,
+    pub to: Option<&'a str>,
+    pub link: Option<&'a str>,
+    pub network: Option<&'a str>,
     /// Are the numbers written as JSON in place of a page?
     pub json: bool,
+    /// The table of links that is written as comma-separated values, if one is.
+    pub csv: Option<&'a str>,
+    /// The title of the page.
+    pub title: Option<&'a str>,
+    /// Which findings make it fail, if some do.
+    pub fail_on: Option<FailOn>,
     /// Where the page or the numbers are written.
     pub output: &'a str,
 }
 
-/// What a run over two recordings would be given, and how the answer is written. `-` is standard input.
+/// The inputs of a run over two recordings, and the form of the answer. `-` is standard input.
 #[derive(Clone, Copy, PartialEq, Eq)]
 pub struct CheckArguments<'a> {
     /// The table of virtual links, a TOML document.
@@ -191,7 +218,7 @@ fn needed<'a>(given: &ArgMatches<'a>, name: &str) -> Result<&'a str, Misuse> {
     given.get_str(name).ok_or(Misuse::Incomplete)
 }
 
-/// Whether a flag is given.
+/// True if a flag is given.
 fn flag(given: &ArgMatches<'_>, name: &str) -> Result<bool, Misuse> {
     given.get_one(name).ok_or(Misuse::Incomplete)
 }
@@ -222,7 +249,7 @@ fn lateness(given: &ArgMatches<'_>) -> Result<Option<Lateness>, Misuse> {
     }
 }
 
-/// What the arguments of `capture` give.
+/// The arguments of `capture`.
 fn capture_arguments<'a>(given: &ArgMatches<'a>) -> Result<CaptureArguments<'a>, Misuse> {
     let late = lateness(given)?;
     Ok(CaptureArguments {
@@ -234,7 +261,7 @@ fn capture_arguments<'a>(given: &ArgMatches<'a>) -> Result<CaptureArguments<'a>,
     })
 }
 
-/// What the options of `watch` give.
+/// The options of `watch`.
 fn watch_arguments<'a>(given: &ArgMatches<'a>) -> Result<WatchArguments<'a>, Misuse> {
     let watch = WatchArguments {
         late: lateness(given)?,
@@ -248,6 +275,7 @@ fn watch_arguments<'a>(given: &ArgMatches<'a>) -> Result<WatchArguments<'a>, Mis
         digest: flag(given, "digest")?,
         workers: given.get_one("workers").ok_or(Misuse::Incomplete)?,
         quiet: flag(given, "quiet")?,
+        strict: flag(given, "strict")?,
         pcapng: flag(given, "pcapng")?,
     };
     check_watch(&watch)?;
@@ -275,7 +303,7 @@ fn check_watch(given: &WatchArguments<'_>) -> Result<(), Misuse> {
     Ok(())
 }
 
-/// What the options of `debug` give.
+/// The options of `debug`.
 fn debug_arguments<'a>(given: &ArgMatches<'a>) -> Result<DebugArguments<'a>, Misuse> {
     let late = lateness(given)?;
     Ok(DebugArguments {
@@ -285,7 +313,7 @@ fn debug_arguments<'a>(given: &ArgMatches<'a>) -> Result<DebugArguments<'a>, Mis
     })
 }
 
-/// What the options of `cut` give.
+/// The options of `cut`.
 fn cut_arguments<'a>(given: &ArgMatches<'a>) -> Result<CutArguments<'a>, Misuse> {
     let cut = CutArguments {
         ledger: needed(given, "ledger")?,
@@ -320,39 +348,83 @@ fn check_cut(given: &CutArguments<'_>) -> Result<(), Misuse> {
     if given.to.is_some() && given.span.is_some() {
         return Err(Misuse::TwoEnds);
     }
-    match given.network {
-        Some("A" | "B") | None => Ok(()),
-        Some(_) => Err(Misuse::NoNetwork),
-    }
+    check_network(given.network)
 }
 
-/// What the options of `links` give: a recording or a document, or both.
+/// Which heads the columns of a document have.
+fn given_heads<'a>(given: &ArgMatches<'a>) -> Result<GivenHeads<'a>, Misuse> {
+    let mut heads = GivenHeads::none();
+    for text in given.get_strs("column").unwrap_or(&[]) {
+        heads = match heads.with(*text) {
+            Ok(heads) => heads,
+            Err(_) => return Err(Misuse::NoColumn),
+        };
+    }
+    Ok(heads)
+}
+
+/// The options of `links`: a recording or a document, or both, and heads of a document alone.
 fn links_arguments<'a>(given: &ArgMatches<'a>) -> Result<LinksArguments<'a>, Misuse> {
     let links = LinksArguments {
         a: given.get_str("a"),
         b: given.get_str("b"),
         constant: given.get_str("constant"),
         icd: given.get_str("icd"),
+        columns: given_heads(given)?,
     };
+    if links.icd.is_none() && !links.columns.is_empty() {
+        return Err(Misuse::NoDocument);
+    }
     if links.a.is_none() && links.b.is_none() && links.icd.is_none() {
         return Err(Misuse::NoLinks);
     }
     Ok(links)
 }
 
-/// What the options of `report` give.
+/// Which findings make a report fail, if that is given.
+fn fail_on(given: &ArgMatches<'_>) -> Result<Option<FailOn>, Misuse> {
+    match given.get_str("fail-on") {
+        Some("trouble") => Ok(Some(FailOn::Trouble)),
+        Some("notice") => Ok(Some(FailOn::Notice)),
+        Some(_) => Err(Misuse::NoLevel),
+        None => Ok(None),
+    }
+}
+
+/// The options of `report`.
 fn report_arguments<'a>(given: &ArgMatches<'a>) -> Result<ReportArguments<'a>, Misuse> {
-    Ok(ReportArguments {
+    let report = ReportArguments {
         config: needed(given, "config")?,
         ledger: needed(given, "ledger")?,
         manifest: given.get_str("manifest"),
         baseline: given.get_str("baseline"),
+        baseline_config: given.get_str("baseline-config"),
+        from: given.get_str("from"),
+        to: given.get_str("to"),
+        link: given.get_str("link"),
+        network: given.get_str("network"),
         json: flag(given, "json")?,
+        csv: given.get_str("csv"),
+        title: given.get_str("title"),
+        fail_on: fail_on(given)?,
         output: needed(given, "output")?,
-    })
+    };
+    check_network(report.network)?;
+    if report.baseline_config.is_some() && report.baseline.is_none() {
+        return Err(Misuse::NoBaseline);
+    }
+    Ok(report)
 }
 
-/// What the options of `check` give.
+/// Refuses a network that is neither A nor B.
+fn check_network(network: Option<&str>) -> Result<(), Misuse> {
+    match network {
+        Some("A" | "B") | None => Ok(()),
+        Some(_) => Err(Misuse::NoNetwork),
+    }
+}
+
+/// The options of `check`.
 fn check_arguments<'a>(given: &ArgMatches<'a>) -> Result<CheckArguments<'a>, Misuse> {
     Ok(CheckArguments {
         config: needed(given, "config")?,
@@ -364,7 +436,7 @@ fn check_arguments<'a>(given: &ArgMatches<'a>) -> Result<CheckArguments<'a>, Mis
     })
 }
 
-/// What a command of a name and its arguments ask for.
+/// The request of a command of a name and its arguments.
 fn invocation_of<'a>(name: &str, given: &ArgMatches<'a>) -> Result<Invocation<'a>, Misuse> {
     match name {
         "capture" => Ok(Invocation::Capture(capture_arguments(given)?)),
@@ -379,7 +451,7 @@ fn invocation_of<'a>(name: &str, given: &ArgMatches<'a>) -> Result<Invocation<'a
     }
 }
 
-/// What the matches of a command line ask for.
+/// The request of the matches of a command line.
 fn arguments_of<'a>(matches: &ArgMatches<'a>) -> Result<CommandLine<'a>, Misuse> {
     let (name, given) = matches.subcommand().ok_or(Misuse::Incomplete)?;
     Ok(CommandLine {

@@ -1,18 +1,46 @@
 //! How the program ends: its exit status, and what it tells standard error.
 
+use crate::arguments::FailOn;
 use crate::fault::{Fault, FileOption};
 use crate::summary::Summary;
 use cut_run::{CutEnding, CutFault};
 use ledger_text::LedgerStop;
 use pcap_io::Ending;
 use run_fault::{Output, WatchFault};
+use std::fmt;
+use std::fmt::{Display, Formatter};
 
 /// The exit status of invalid arguments, after clap's text.
 pub const USAGE: u8 = 2;
 
-/// What a person is told whose terminal packets would be written to.
+/// The exit status of a command that did its work, and found what it was told to fail on.
+pub const FAILED: u8 = 3;
+
+/// The words for a person whose terminal packets would be written to.
 pub const TO_A_TERMINAL: &str = "\
 afdxmon: packets aren't written to a terminal: name a file by -o (of watch by --capture), or use a pipe";
+
+/// Findings of a report that it was told to fail on.
+#[derive(Clone, Copy)]
+pub struct Found {
+    pub level: FailOn,
+    /// How many there are.
+    pub count: u64,
+    /// Where the ledger ends that was read, if that is before its line `total`.
+    pub stop: Option<LedgerStop>,
+}
+
+/// The line that says so.
+impl Display for Found {
+    fn fmt<W: fmt::Write>(&self, f: &mut Formatter<W>) -> fmt::Result {
+        let Found { level, count, .. } = *self;
+        let words = match level {
+            FailOn::Trouble => "of trouble: --fail-on trouble",
+            FailOn::Notice => "of trouble or notice: --fail-on notice",
+        };
+        write!(f, "afdxmon: findings {count} {words}")
+    }
+}
 
 /// How a command ended.
 #[derive(Clone, Copy)]
@@ -25,10 +53,17 @@ pub enum Exit {
     Watched(Summary),
     /// Status 0: the ledger that was read ends before its line `total`. What stands there was taken.
     WithoutTotal(LedgerStop),
+    /// Status 3: the report is written, and there are findings that it was told to fail on.
+    Found(Found),
     /// Status 1.
     Fault(Fault),
     /// Status 2: packets would be written to a terminal. Nothing was opened.
     Terminal,
+}
+
+/// Was a recording read to its end?
+fn is_whole(ending: Ending) -> bool {
+    matches!(ending, Ending::Clean(_))
 }
 
 impl Exit {
@@ -102,7 +137,16 @@ impl Exit {
         match self {
             Exit::Success | Exit::Note(_) | Exit::Watched(_) | Exit::WithoutTotal(_) => 0,
             Exit::Fault(_) => 1,
+            Exit::Found(_) => FAILED,
             Exit::Terminal => USAGE,
+        }
+    }
+
+    /// Did a run over two recordings end before the end of one of them?
+    pub fn is_early(&self) -> bool {
+        match self {
+            Exit::Watched(run) => !(is_whole(run.a) && is_whole(run.b)),
+            _ => false,
         }
     }
 }

@@ -34,6 +34,10 @@ pub enum FileOption {
     Manifest,
     /// The ledger of an earlier flight.
     Baseline,
+    /// The table of the baseline.
+    BaselineConfig,
+    /// The table of links that is written as comma-separated values.
+    Csv,
 }
 
 /// An option whose text selects frames of a ledger.
@@ -48,7 +52,7 @@ pub enum SelectionOption {
     Around,
 }
 
-/// What a ledger's line says that the lines before it, or the table, contradict.
+/// The contradictions of a ledger's line to the lines before it, or to the table.
 #[derive(Clone, Copy, Debug, PartialEq, Eq)]
 pub enum Contradiction {
     /// A frame's line is of a link that the table doesn't have, and says that it has.

@@ -97,7 +97,9 @@ fn report_files(given: ReportArguments<'_>) -> [GivenFile<'_>; MAX_FILES] {
         read(FileOption::Manifest, given.manifest),
         read(FileOption::Ledger, Some(given.ledger)),
         read(FileOption::Baseline, given.baseline),
+        read(FileOption::BaselineConfig, given.baseline_config),
         written(FileOption::Output, Some(given.output)),
+        written(FileOption::Csv, given.csv),
     ])
 }
 
@@ -223,7 +225,7 @@ pub struct Inode {
     pub number: u64,
 }
 
-/// What a path names, as far as it tells whether another path names the same.
+/// A path as far as it tells whether another path names the same file.
 #[derive(Clone, Copy, PartialEq, Eq)]
 pub enum Named<'a> {
     /// A regular file, by whatever links and folders the path leads to it.

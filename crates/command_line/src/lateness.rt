@@ -39,7 +39,7 @@ fn lateness_within(micros: u64) -> Option<Lateness>
     }
 }
 
-/// What a text says: `any`, or microseconds in decimal digits.
+/// Reads `any`, or microseconds in decimal digits.
 pub(crate) fn read_lateness(text: &str) -> Option<Lateness>
     ensures { result ≡ lateness_in text.now }
 {

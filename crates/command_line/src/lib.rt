@@ -7,6 +7,7 @@ mod caret;
 mod exit;
 mod fault;
 mod files;
+mod icd;
 mod lateness;
 mod line;
 mod meaning;
@@ -16,19 +17,21 @@ mod moment;
 mod options;
 mod place;
 mod refused;
+mod selection;
 mod shown;
 mod summary;
 mod usage;
 mod words;
 
 pub use arguments::{
-    CaptureArguments, CheckArguments, CommandLine, CutArguments, DebugArguments, FilterArgument,
-    Invocation, LinksArguments, ReportArguments, WatchArguments, read_arguments,
+    CaptureArguments, CheckArguments, CommandLine, CutArguments, DebugArguments, FailOn,
+    FilterArgument, Invocation, LinksArguments, ReportArguments, WatchArguments, read_arguments,
 };
 pub use caret::{Caret, Place, caret_at, place_at};
-pub use exit::{Exit, TO_A_TERMINAL, USAGE};
+pub use exit::{Exit, FAILED, Found, TO_A_TERMINAL, USAGE};
 pub use fault::{Contradiction, Fault, FileOption, ManifestFault, ReportFault, SelectionOption};
 pub use files::{GivenFile, Inode, MAX_FILES, Named, NamedFile, is_standard, refuse_shared};
+pub use icd::IcdLines;
 pub use lateness::{Lateness, MAX_LATE_MICROS};
 pub use line::fault_line;
 pub use meaning::{
@@ -41,6 +44,7 @@ pub use moment::{MomentText, read_moment, read_span};
 pub use options::version;
 pub use place::file_of;
 pub use refused::{Written, load_offset, numeric_offset, source_offset, written_as};
+pub use selection::selection_of;
 pub use shown::{Shown, Typed};
 pub use summary::{Hint, Summary, hint_of};
 pub use words::{BETWEEN_FILES, gathered, has_standard_among};

@@ -17,7 +17,7 @@ use std::fmt;
 use std::fmt::{Display, Formatter};
 use vl_config::ConfigFault;
 
-/// What stands after the name of a fault.
+/// The text after the name of a fault.
 #[derive(Clone, Copy)]
 enum About {
     Nothing,
@@ -176,6 +176,8 @@ pub(crate) fn file_name(file: FileOption) -> &'static str {
         FileOption::Icd => "--icd",
         FileOption::Manifest => "--manifest",
         FileOption::Baseline => "--baseline",
+        FileOption::BaselineConfig => "--baseline-config",
+        FileOption::Csv => "--csv",
     }
 }
 
@@ -244,7 +246,7 @@ fn field_name(fault: FrameFault) -> &'static str {
     }
 }
 
-/// What is wrong with a ledger's line; of a frame's line the first field that is.
+/// The name of a fault of a ledger's line; of a frame's line by the first field that is wrong.
 fn line_fault_name(fault: LineFault) -> &'static str {
     match fault {
         LineFault::Head => "head",
@@ -323,11 +325,13 @@ fn report_part(fault: ReportFault) -> Part {
 
 fn icd_part(fault: IcdFault) -> Part {
     match fault {
-        IcdFault::Head { line } => in_line("2 Icd", line, "head"),
-        IcdFault::Cells { line } => in_line("2 Icd", line, "cells"),
+        IcdFault::Head { line, .. } => in_line("2 Icd", line, "head"),
+        IcdFault::Quote { line } | IcdFault::Length { line, .. } => {
+            in_line("2 Icd", line, "cells")
+        }
         IcdFault::Value { line, column } => in_line("2 Icd", line, column.name()),
-        IcdFault::TwiceId { line } => in_line("2 Icd", line, "twiceid"),
-        IcdFault::TwiceName { line } => in_line("2 Icd", line, "twicename"),
+        IcdFault::TwiceId { line, .. } => in_line("2 Icd", line, "twiceid"),
+        IcdFault::TwiceName { line, .. } => in_line("2 Icd", line, "twicename"),
         IcdFault::TooMany { line } => in_line("2 Icd", line, "toomany"),
         IcdFault::Memory => plain("4 Memory"),
     }
@@ -345,7 +349,7 @@ fn selection_name(option: SelectionOption) -> &'static str {
     }
 }
 
-/// What a fault is of, and which it is.
+/// The subject of a fault, and the fault itself.
 fn part_of(fault: &Fault) -> (&'static str, Part) {
     match *fault {
         Fault::File(file) | Fault::Shared { output: file, .. } | Fault::Taken { file, .. } => {

@@ -17,9 +17,9 @@ use pcap_io::{BadReason, Ending, HeaderFault};
 use run_fault::{Output, WatchFault};
 use std::fmt;
 use std::fmt::{Display, Formatter};
-use vl_config::{ConfigFault, Key};
+use vl_config::ConfigFault;
 
-/// What to do with a text that isn't the numeric form of a filter, by what it looks like.
+/// The advice on a text that isn't the numeric form of a filter, by what it looks like.
 pub fn numeric_advice(fault: NumericFault, written: Written) -> &'static str {
     match (fault, written) {
         (NumericFault::Count { .. }, _) => {
@@ -61,10 +61,10 @@ fn load_advice(fault: LoadFault) -> &'static str {
 /// How many bytes of a file say what it is, if it is no recording: those of a pcap file's header.
 pub const HEAD_LEN: usize = 24;
 
-/// What to do with a compressed recording: what its command line has in place of its path.
+/// The advice on a compressed recording: the words that its command line has in place of its path.
 #[derive(Clone, Copy)]
 pub struct CompressedAdvice<'a> {
-    /// What it is compressed by, and what unpacks it.
+    /// The compression, and the program that unpacks it.
     packer: &'static str,
     unpacker: &'static str,
     option: FileOption,
@@ -88,7 +88,7 @@ impl Display for CompressedAdvice<'_> {
     }
 }
 
-/// What to do with a file that is a compressed one, by its first bytes.
+/// The advice on a file that is a compressed one, by its first bytes.
 pub fn compressed_advice<'a>(head: &[u8], file: GivenFile<'a>) -> Option<CompressedAdvice<'a>> {
     let (packer, unpacker) = match head {
         [0x1f, 0x8b, ..] => ("gzip", "zcat"),
@@ -120,7 +120,7 @@ fn link_type_advice(head: &[u8]) -> &'static str {
     }
 }
 
-/// What to do with a file that is no recording, by its first [`HEAD_LEN`] bytes. Without them
+/// The advice on a file that is no recording, by its first [`HEAD_LEN`] bytes. Without them
 /// nothing is known of it.
 pub fn header_advice(fault: HeaderFault, head: &[u8]) -> &'static str {
     match fault {
@@ -142,7 +142,7 @@ pub fn header_advice(fault: HeaderFault, head: &[u8]) -> &'static str {
     }
 }
 
-/// What to do where a recording ends bad for a reason that has an advice of its own.
+/// The advice on a recording that ends bad for a reason that has one of its own.
 fn reason_advice(reason: BadReason) -> Option<&'static str> {
     Some(match reason {
         BadReason::StampBack { .. } => {
@@ -172,7 +172,7 @@ fn reason_advice(reason: BadReason) -> Option<&'static str> {
     })
 }
 
-/// What to do with a recording that ends early.
+/// The advice on a recording that ends early.
 #[derive(Clone, Copy)]
 pub struct EndingAdvice(pub Ending);
 
@@ -222,7 +222,7 @@ fn watch_advice(fault: WatchFault) -> &'static str {
     }
 }
 
-/// What a file needs, after the option that names it.
+/// The need of a file, after the option that names it.
 fn needs(file: FileOption) -> &'static str {
     match file {
         FileOption::Standard => {
@@ -237,9 +237,14 @@ fn needs(file: FileOption) -> &'static str {
         FileOption::Recording | FileOption::Tap | FileOption::A | FileOption::B => {
             "needs a recording that can be read: a pcap or pcapng file, or a pipe"
         }
-        FileOption::Capture | FileOption::Ledger | FileOption::Output | FileOption::Manifest => {
-            "needs a file that can be written, in a directory that is there"
+        FileOption::BaselineConfig => {
+            "needs a table of virtual links that is sound: afdxmon check --config FILE tells what isn't"
         }
+        FileOption::Capture
+        | FileOption::Ledger
+        | FileOption::Output
+        | FileOption::Manifest
+        | FileOption::Csv => { "needs a file that can be written, in a directory that is there" }
         FileOption::Baseline => "needs a ledger that can be read: a file of watch, or a pipe",
     }
 }
@@ -387,30 +392,15 @@ fn draft_advice(fault: ConfigFault) -> &'static str {
     }
 }
 
-/// What a column of a document of links takes.
+/// The advice on a document of links, where its faults aren't listed.
 fn icd_advice(fault: IcdFault) -> &'static str {
     match fault {
-        IcdFault::Head { .. } => {
-            "the first row has the columns' heads: id, and any of name, bag_ms, jitter_us, smax, \
-             integrity, redundancy, skew_us"
-        }
-        IcdFault::Cells { .. } => {
-            "the row has more or fewer cells than the first, or a quote that isn't closed or is \
-             followed by text"
-        }
-        IcdFault::Value {
-            column: Key::Integrity | Key::Redundancy,
-            ..
-        } => "a flag is true or false, yes or no, 1 or 0",
-        IcdFault::Value { column, .. } => column.allowed(),
-        IcdFault::TwiceId { .. } => "an earlier row has the identifier",
-        IcdFault::TwiceName { .. } => "an earlier row has the name",
-        IcdFault::TooMany { .. } => "there are at most 4096 links in a table",
         IcdFault::Memory => OUT_OF_MEMORY,
+        _ => "the document has faults, and there is no memory to list them",
     }
 }
 
-/// What a fault that is of no file's option means.
+/// The advice on a fault that is of no file's option.
 fn fixed_advice(fault: &Fault) -> &'static str {
     match *fault {
         Fault::File(file) | Fault::Shared { output: file, .. } | Fault::Taken { file, .. } => {
@@ -440,7 +430,7 @@ fn fixed_advice(fault: &Fault) -> &'static str {
     }
 }
 
-/// What a fault line means and what to do, in plain words, for a person at a terminal.
+/// The meaning of a fault line and the way to mend it, in plain words, for a person at a terminal.
 #[derive(Clone, Copy)]
 pub struct Advice<'a>(pub &'a Fault);
 

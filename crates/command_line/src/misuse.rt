@@ -13,6 +13,10 @@ pub enum Misuse {
     NoRecording,
     /// A draft has neither a recording nor a document that specifies links.
     NoLinks,
+    /// A column of a document is given that is none of a link's keys, or is given twice.
+    NoColumn,
+    /// A column of a document is given, and no document.
+    NoDocument,
     /// A capture is to be written, and no filter says of which frames.
     Unfiltered,
     /// A network is given that is neither A nor B.
@@ -25,6 +29,10 @@ pub enum Misuse {
     NoPackets,
     /// A window for late timestamps is given that is none.
     NoLateness,
+    /// A level of findings is given that is neither trouble nor notice.
+    NoLevel,
+    /// The table of a baseline is given, and no baseline.
+    NoBaseline,
     /// A run over two recordings, whose frames it puts in order, is to take timestamps in any order.
     Unordered,
     /// A span of time has both a last moment and a length.
@@ -40,28 +48,40 @@ impl Misuse {
             Misuse::TwoFilters | Misuse::NoPackets | Misuse::TwoEnds => {
                 ErrorKind::ArgumentConflict
             }
-            Misuse::NoNetwork | Misuse::NoLateness | Misuse::Unordered => ErrorKind::InvalidValue,
+            Misuse::NoNetwork
+            | Misuse::NoLateness
+            | Misuse::Unordered
+            | Misuse::NoColumn
+            | Misuse::NoLevel => ErrorKind::InvalidValue,
             Misuse::NoFilter
             | Misuse::NoRecording
             | Misuse::NoLinks
+            | Misuse::NoDocument
             | Misuse::Unfiltered
             | Misuse::Uncaptured
             | Misuse::NoManifest
+            | Misuse::NoBaseline
             | Misuse::Incomplete => ErrorKind::MissingRequiredArgument,
         }
     }
 
-    /// What clap's error says, after `error: `.
+    /// The text of clap's error, after `error: `.
     pub fn message(self) -> &'static str {
         match self {
             Misuse::NoFilter => "no filter is given",
             Misuse::TwoFilters => "more than one filter is given",
             Misuse::NoRecording => "no recording is given: --a, --b or both name one",
             Misuse::NoLinks => "no recording is given: --a, --b or both name one, or --icd an ICD",
+            Misuse::NoColumn =>
+                "--column is KEY=HEAD, each KEY once: id, name, bag_ms, jitter_us, smax, integrity, \
+                 redundancy or skew_us",
+            Misuse::NoDocument => "--column needs --icd, the document whose column it names",
             Misuse::Unfiltered => "--capture needs --filter, which says what frames it is to have",
             Misuse::NoNetwork => "--network is A or B",
+            Misuse::NoLevel => "--fail-on is trouble or notice",
             Misuse::Uncaptured => "--pcapng needs --capture: it says how the capture is written",
             Misuse::NoManifest => "--digest needs --manifest, which has the digests",
+            Misuse::NoBaseline => "--baseline-config needs --baseline, whose table it is",
             Misuse::NoPackets =>
                 "--pcapng says how packets are written, and --ledger-only leaves them out",
             Misuse::NoLateness =>

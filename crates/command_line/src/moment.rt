@@ -8,7 +8,7 @@ ghost use Rattle.command_line.specs.Moment.{clock_nanoseconds, decimal_in, digit
 use jiff::Timestamp;
 use jiff::civil::Time;
 
-/// What a moment's text says.
+/// The moment that a text names.
 #[derive(Clone, Copy, PartialEq, Eq)]
 pub enum MomentText {
     /// Nanoseconds since 1970 (UTC).
@@ -209,7 +209,7 @@ fn read_since(text: &str) -> Option<u64>
     }
 }
 
-/// What stands before `ms`.
+/// The text before `ms`.
 fn before_ms(text: &str) -> Option<&str>
     ensures { option_map text_of result ≡ number_before is_m (codes "s") text.now }
 {
@@ -219,7 +219,7 @@ fn before_ms(text: &str) -> Option<&str>
     }
 }
 
-/// What stands before `us`.
+/// The text before `us`.
 fn before_us(text: &str) -> Option<&str>
     ensures { option_map text_of result ≡ number_before is_u (codes "s") text.now }
 {
@@ -229,7 +229,7 @@ fn before_us(text: &str) -> Option<&str>
     }
 }
 
-/// What stands before `s`.
+/// The text before `s`.
 fn before_s(text: &str) -> Option<&str>
     ensures { option_map text_of result ≡ number_before is_s [] text.now }
 {

@@ -29,6 +29,8 @@ pub(crate) enum Form {
     Needed(&'static str),
     /// An option that may be given.
     Free(&'static str),
+    /// An option that may be given several times.
+    Repeated(&'static str),
     /// An option with a number of 8 bits, and the text of the one that it is where it isn't given.
     Number8(&'static str),
     /// The same with a number of 16 bits.
@@ -50,7 +52,7 @@ pub(crate) struct CommandRow {
     about: &'static str,
     /// How it is called, where clap's own text doesn't say enough.
     usage: Option<&'static str>,
-    /// What stands after the arguments in the help.
+    /// The text after the arguments in the help.
     example: &'static str,
     arguments: &'static [Argument],
 }
@@ -110,7 +112,7 @@ const LATE: Argument = Argument(
     "Take timestamps that are out of order by N microseconds, or in any order",
 );
 
-/// What each command takes.
+/// The arguments of each command.
 const CAPTURE: [Argument; 8] = [
     Argument(
         "code",
@@ -132,7 +134,7 @@ const CAPTURE: [Argument; 8] = [
 
 const ASM: [Argument; 1] = [VERBOSE];
 
-const WATCH: [Argument; 13] = [
+const WATCH: [Argument; 14] = [
     CONFIG,
     FILTER,
     A,
@@ -167,6 +169,11 @@ const WATCH: [Argument; 13] = [
         "quiet",
         Form::Flag,
         "Leave out progress and summary at a terminal",
+    ),
+    Argument(
+        "strict",
+        Form::Flag,
+        "End with status 3 where a recording ends early, not with 0",
     ),
     COMMENTED,
     VERBOSE,
@@ -239,7 +246,7 @@ const CUT: [Argument; 16] = [
     VERBOSE,
 ];
 
-const LINKS: [Argument; 5] = [
+const LINKS: [Argument; 6] = [
     A,
     B,
     Argument(
@@ -250,12 +257,17 @@ const LINKS: [Argument; 5] = [
     Argument(
         "icd",
         FILE,
-        "The links that are specified, comma-separated values",
+        "The links that are specified: values separated by commas, semicolons or tabs",
+    ),
+    Argument(
+        "column",
+        Form::Repeated("KEY=HEAD"),
+        "The head of a key's column in the ICD, as id='VL-Nr'; may be given again",
     ),
     VERBOSE,
 ];
 
-const REPORT: [Argument; 7] = [
+const REPORT: [Argument; 15] = [
     CONFIG,
     Argument(
         "ledger",
@@ -270,12 +282,40 @@ const REPORT: [Argument; 7] = [
     Argument(
         "baseline",
         FILE,
-        "The ledger of an earlier flight, of the same table, to compare with",
+        "The ledger of an earlier flight to compare with",
     ),
+    Argument(
+        "baseline-config",
+        FILE,
+        "The table of that flight, where it was another one",
+    ),
+    Argument(
+        "from",
+        Form::Free("TIME"),
+        "The first moment of what is told",
+    ),
+    Argument("to", Form::Free("TIME"), "The last moment"),
+    Argument(
+        "link",
+        Form::Free("LIST"),
+        "The virtual links, as '301-305,42' or 'engine_*'",
+    ),
+    Argument("network", Form::Free("A|B"), "The network"),
     Argument(
         "json",
         Form::Flag,
         "Write the page's numbers as JSON in place of the page",
+    ),
+    Argument(
+        "csv",
+        FILE,
+        "Write the links too, a row each of comma-separated values",
+    ),
+    Argument("title", Form::Free("TEXT"), "The title of the page"),
+    Argument(
+        "fail-on",
+        Form::Free("LEVEL"),
+        "End with status 3 where there are findings of trouble, or by 'notice' of notice too",
     ),
     Argument(
         "output",
@@ -398,6 +438,7 @@ fn clap_argument<'a>(alloc: Global, row: &Argument) -> Arg<'a> {
             .action(ArgAction::SetTrue),
         Form::Needed(value) => option(alloc, name, value, help).required(true),
         Form::Free(value) => option(alloc, name, value, help),
+        Form::Repeated(value) => option(alloc, name, value, help).action(ArgAction::Append),
         Form::Number8(default) => option(alloc, name, "N", help)
             .value_parser(clap::value_parser!(u8))
             .default_value(default),

@@ -110,7 +110,7 @@ pub fn load_offset(fault: LoadFault, text: &str) -> Option<usize> {
     }
 }
 
-/// What a text is that isn't the numeric form of a filter.
+/// The likeness of a text that isn't the numeric form of a filter.
 #[derive(Clone, Copy, PartialEq, Eq)]
 pub enum Written {
     /// A filter's source: `afdxmon asm` assembles it.
@@ -121,7 +121,7 @@ pub enum Written {
     Numeric,
 }
 
-/// What a text looks like: a source, if statements stand in it up to its end or up to a fault in a later
+/// The likeness of a text: a source, if statements stand in it up to its end or up to a fault in a later
 /// line, and else an expression, if it begins with a letter, `!` or `(`.
 pub fn written_as(alloc: Global, text: &str) -> Written {
     if is_source(alloc, text) {

@@ -78,7 +78,7 @@ fn hint_words(hint: Hint) -> &'static str {
     }
 }
 
-/// What a run over two recordings read and counted. Its text is the summary, without the last newline.
+/// The counts of a run over two recordings. Its text is the summary, without the last newline.
 #[derive(Clone, Copy)]
 pub struct Summary {
     /// How the recording of network A ended.

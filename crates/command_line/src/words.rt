@@ -4,7 +4,7 @@ use crate::files::is_standard;
 use crate::options::takes_value;
 use std::alloc::{AllocError, Global};
 
-/// What stands between the paths of a recording's files where they are one word: no path has it.
+/// The character between the paths of a recording's files where they are one word: no path has it.
 pub const BETWEEN_FILES: char = '\0';
 
 /// The options whose value is a recording.
@@ -13,7 +13,7 @@ const RECORDINGS: [&str; 3] = ["--a", "--b", "--tap"];
 /// The command whose recording no option stands before.
 const CAPTURE: &str = "capture";
 
-/// What a word is.
+/// The role of a word.
 #[derive(Clone, Copy, PartialEq, Eq)]
 enum Role {
     /// An option whose value is a recording.
@@ -33,7 +33,7 @@ fn is_option(word: &str) -> bool {
     word.len() > 1 && word.starts_with('-')
 }
 
-/// What a word is that stands after one of this role.
+/// The role of a word that stands after one of this role.
 fn role_after(before: Role, is_capture: bool, word: &str) -> Role {
     if is_option(word) {
         return if RECORDINGS.contains(&word) {

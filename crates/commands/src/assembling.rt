@@ -1,7 +1,7 @@
 //! A filter's source, assembled.
-use crate::heard::Heard;
-use analyser::{AsmRun, run_asm};
+use crate::standard_input::StandardInput;
 use command_line::Exit;
+use filter_run::{AsmRun, run_asm};
 use pcap_io::{ReadSource, WriteSink};
 use tap_inputs::{Cause, Detail, Noting, Outcome, standard_output};
 
@@ -14,7 +14,7 @@ pub fn asm(rt: &HostRuntime) -> Outcome {
         sink,
     } = run_asm(
         rt.alloc(),
-        ReadSource::new(Heard::new(rt)),
+        ReadSource::new(StandardInput::new(rt)),
         WriteSink::new(Noting::new(standard_output(rt))),
     );
     let (flushed, refused) = sink.into_writer().finish();

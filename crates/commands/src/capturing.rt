@@ -1,9 +1,9 @@
 //! The frames of a recording that a filter accepts.
 use crate::files::refuse_shared;
-use crate::given::{filter, is_at_terminal, late_of};
+use crate::inputs::{filter, is_at_terminal, late_of};
 use crate::outputs::{create, file_in, format_of, live_output};
 use afdx_frame::Network;
-use analyser::{CaptureRun, capture_by};
+use capture_run::{CaptureRun, capture_by};
 use command_line::{CaptureArguments, Exit, FileOption, Invocation};
 use pcap_io::WriteSink;
 use pcapng::Interfaces;

@@ -1,12 +1,13 @@
 //! Whether a run of `watch` would be sound, told on standard output.
-use crate::given::{MAX_LATE, shown_path, text_of};
+use crate::inputs::{MAX_LATE, shown_path, text_of};
 use afdx_frame::Network;
-use analyser::filter_of;
 use bpf_loader::Program;
 use check_answer::{Answer, FilterAnswer, TapAnswer, json_of, text_of as answer_text, verdict_of};
 use command_line::{CheckArguments, Exit, Fault, FileOption, Invocation};
 use pcap_io::Ending;
 use run_fault::{MAX_FRAMES, WatchFault};
+use run_inputs::filter_of;
+use run_manifest::Sum;
 use std::alloc::{AllocError, Global};
 use std::fmt::Write;
 use table_check::{TableFault, table_faults};
@@ -22,7 +23,7 @@ use vl_config::Config;
 /// How many frames of each recording are read at most, where they aren't read whole.
 const MAX_LOOKED_AT: u64 = 1_000_000;
 
-/// What a pass over the recordings came to.
+/// The result of a pass over the recordings.
 #[derive(Clone, Copy)]
 struct Passed<'a> {
     a: Option<TapAnswer<'a>>,
@@ -47,12 +48,27 @@ fn tap_answer<'a>(
         name,
         format: end.format,
         recorded,
+        percent: percent_of(tap, rt, &end.sums),
         disorder: Disorder::of(Invocation::Check(*given), recorded.ending),
         skipped: end.skipped,
+        dropped: tap.dropped(rt),
     })
 }
 
-/// What a person knows a recording by: nothing if it isn't given.
+/// How many per cent of a recording's bytes were read, where it goes on. None: a file's length isn't known.
+fn percent_of(tap: &Tap, rt: &HostRuntime, read: &[Sum]) -> Option<u64> {
+    let mut length = 0u64;
+    for file in &tap.files {
+        length = length.saturating_add(file.length(rt)?);
+    }
+    let bytes = read
+        .iter()
+        .fold(0u64, |sum: u64, file| sum.saturating_add(file.bytes));
+    let percent = bytes.saturating_mul(100).checked_div(length)?;
+    Some(percent.min(99))
+}
+
+/// The name of a recording for a person: empty if it isn't given.
 fn name_of(rt: &HostRuntime, tap: &Tap) -> Result<String, Fault> {
     let mut name = String::new(rt.alloc());
     let Some(first) = tap.path_at(0) else {
@@ -116,7 +132,7 @@ fn filter_answer(
     Ok(FilterAnswer { number, loaded })
 }
 
-/// Whether the filters load: that of the command line, and those of the table.
+/// True if the filters load: that of the command line, and those of the table.
 fn filter_answers(
     rt: &HostRuntime,
     given: &CheckArguments<'_>,
@@ -139,7 +155,7 @@ fn filter_answers(
     Ok(answers)
 }
 
-/// What was read of a recording.
+/// The part of a recording that was read.
 fn reach_of(tap: Option<TapAnswer<'_>>) -> Option<Reach> {
     let recorded = tap?.recorded;
     let span = recorded.span?;
@@ -210,7 +226,7 @@ fn check_inputs(
     tell_inputs(rt, given, table, &filters, &inputs, passed)
 }
 
-/// What recordings leave open: of the run, and then of single links.
+/// The questions that recordings leave open: of the run, and then of single links.
 fn all_questions(
     alloc: Global,
     inputs: &Inputs<'_>,

@@ -1,11 +1,10 @@
 //! The frames of a ledger's lines, cut from its recordings.
 use crate::files::refuse_shared;
-use crate::given::{MAX_LATE, is_at_terminal, table_of};
-use crate::outputs::{Seen, create, format_of, live_output};
+use crate::inputs::{MAX_LATE, is_at_terminal, table_of};
+use crate::outputs::{LineTally, create, format_of, live_output};
 use afdx_frame::Network;
-use analyser::selection_of;
 use command_line::{
-    CutArguments, Exit, Fault, FileOption, Invocation, SelectionOption, is_standard,
+    CutArguments, Exit, Fault, FileOption, Invocation, SelectionOption, is_standard, selection_of,
 };
 use cut_run::{
     CutEnding, CutFault, LinesRun, NeighboursRun, cut_frames, neighbours_of, print_lines,
@@ -21,14 +20,14 @@ use tap_inputs::{
 };
 use vl_config::Config;
 
-/// What is read and written by a cut.
+/// The files that a cut reads and writes.
 #[derive(Drop)]
 struct CutDevices<'a> {
     selection: &'a Selection,
     neighbours: Option<Neighbours>,
     /// The network whose lines are passed over.
     skips: Option<Network>,
-    seen: &'a Seen,
+    seen: &'a LineTally,
     ledger: ReadSource<LiveInput>,
     a: TapFiles<'a>,
     b: TapFiles<'a>,
@@ -193,7 +192,7 @@ pub fn cut(rt: &HostRuntime, given: &CutArguments<'_>, taps: &Taps) -> Result<Ou
     let (output, before_a) = live_output(rt, output, given.a.is_some() && length_a.is_none())?;
     let (output, before_b) = live_output(rt, output, given.b.is_some() && length_b.is_none())?;
     let (tap_a, tap_b) = (taps.of_network(Network::A), taps.of_network(Network::B));
-    let (skips, seen) = (skipped(given), Seen::new());
+    let (skips, seen) = (skipped(given), LineTally::new());
     let files = CutDevices {
         selection: &selection,
         neighbours,

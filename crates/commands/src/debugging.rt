@@ -1,12 +1,12 @@
 //! Sessions of the debugger: commands of standard input, or typed at a terminal.
-use crate::given::{filter, late_of};
-use crate::heard::Heard;
+use crate::inputs::{filter, late_of};
 use crate::outputs::file_in;
+use crate::standard_input::StandardInput;
 use afdx_frame::{Network, TapFrame};
-use analyser::{HeldTap, TapRead, answer_line, begin_session, read_tap, run_session};
 use bpf_debugger::DebugFault;
 use bpf_loader::Program;
 use command_line::{DebugArguments, Exit, Fault, FileOption};
+use filter_run::{HeldTap, TapRead, answer_line, begin_session, read_tap, run_session};
 use pcap_io::{Ending, ReadSource, WriteSink};
 use std::alloc::Global;
 use std::io::{BufRead, BufReader, BufWriter, ErrorKind, IsTerminal, Stdout, Write};
@@ -36,7 +36,7 @@ fn debug_input(rt: &HostRuntime, program: Program, tap: HeldTap) -> Outcome {
     let Ok(output) = BufWriter::with_capacity(rt.alloc(), BLOCK, standard_output(rt)) else {
         return Outcome::from(NO_SESSION);
     };
-    let mut commands = ReadSource::new(Heard::new(rt));
+    let mut commands = ReadSource::new(StandardInput::new(rt));
     let mut sink = WriteSink::new(Noting::new(output));
     let outcome = run_session(rt.alloc(), program, tap.frames, &mut commands, &mut sink);
     Outcome {
@@ -45,7 +45,7 @@ fn debug_input(rt: &HostRuntime, program: Program, tap: HeldTap) -> Outcome {
     }
 }
 
-/// What a person is told at the start of a session.
+/// The words for a person at the start of a session.
 const COMMANDS: &str =
     "commands: select N, step [+|-]N, cont, breakpoint N, disassemble, tally, quit";
 

@@ -16,7 +16,7 @@ pub struct KnownTable<'a> {
 
 /// A link on which a line and the table differ.
 #[derive(Clone, Copy)]
-struct Told<'a> {
+struct DisputedLink<'a> {
     table: KnownTable<'a>,
     disputed: &'a Disputed,
 }
@@ -25,7 +25,7 @@ impl KnownTable<'_> {
     /// How a line differs from the table, if it does so on a link, and there is memory to tell.
     pub fn tell(self, alloc: Global, disputed: Option<Disputed>) -> Option<String> {
         let disputed = &disputed?;
-        let told = Told {
+        let told = DisputedLink {
             table: self,
             disputed,
         };
@@ -33,7 +33,7 @@ impl KnownTable<'_> {
     }
 }
 
-impl Display for Told<'_> {
+impl Display for DisputedLink<'_> {
     fn fmt<W: fmt::Write>(&self, f: &mut Formatter<W>) -> fmt::Result {
         let (id, table) = (self.disputed.id, Shown(self.table.name));
         let number = id.0;

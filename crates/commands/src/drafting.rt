@@ -1,11 +1,11 @@
 //! The table of virtual links that is drafted from recordings and a document.
-use crate::given::{MAX_LATE, text_of};
-use command_line::{Exit, Fault, FileOption, LinksArguments};
-use icd_links::IcdLinks;
+use crate::inputs::{MAX_LATE, text_of};
+use command_line::{Exit, Fault, FileOption, IcdLines, LinksArguments};
+use icd_links::{IcdLinks, IcdRefusal};
 use pcap_io::Ending;
 use std::io;
 use table_draft::{Comparison, DraftFault, LeftOut, Recordings, Sources, Unspecified, draft_of};
-use tap_inputs::{Cause, NO_RUN, Outcome, Skipped, Taps, end_of, open_both, print};
+use tap_inputs::{Cause, Detail, NO_RUN, Outcome, Skipped, Taps, end_of, open_both, print};
 use traffic_survey::{GROUP_BITS, SurveyRun, survey_recordings};
 use vl_config::ConfigFault;
 
@@ -34,15 +34,27 @@ fn exit_of(a: Ending, b: Ending) -> Exit {
     }
 }
 
-/// What a document specifies of links, if one is given.
-fn icd_of(rt: &HostRuntime, path: Option<&str>) -> Result<Option<IcdLinks>, Outcome> {
-    let Some(path) = path else {
+/// The links that a document specifies, if one is given.
+fn icd_of(rt: &HostRuntime, given: &LinksArguments<'_>) -> Result<Option<IcdLinks>, Outcome> {
+    let Some(path) = given.icd else {
         return Ok(None);
     };
     let text = text_of(rt, path, FileOption::Icd)?;
-    match IcdLinks::read(rt.alloc(), &text) {
+    match IcdLinks::read(rt.alloc(), &text, &given.columns) {
         Ok(links) => Ok(Some(links)),
-        Err(fault) => Err(Outcome::from(Fault::Icd(fault))),
+        Err(refusal) => Err(refused(rt, &refusal)),
+    }
+}
+
+/// The outcome of a document that is refused, with its faults.
+fn refused(rt: &HostRuntime, refusal: &IcdRefusal) -> Outcome {
+    let outcome = Outcome::from(Fault::Icd(refusal.first()));
+    let IcdRefusal::Faults(faults) = refusal else {
+        return outcome;
+    };
+    match IcdLines(faults).to_string(rt.alloc()) {
+        Ok(lines) => outcome.with(Detail::Listed(lines)),
+        Err(_) => outcome,
     }
 }
 
@@ -96,7 +108,7 @@ pub fn links<'x>(
     full: bool,
 ) -> Result<Outcome, Outcome> {
     let constant = constant_of(given.constant)?;
-    let icd = icd_of(rt, given.icd)?;
+    let icd = icd_of(rt, given)?;
     let (a, b) = open_both(rt, (given.a, given.b), taps, MAX_LATE)?;
     let SurveyRun { outcome, cut, a, b } = survey_recordings(rt.alloc(), constant, a, b);
     let (mut end_a, mut end_b) = (end_of(rt, a), end_of(rt, b));

@@ -20,7 +20,7 @@ fn inode_of(metadata: &Metadata) -> Inode {
     }
 }
 
-/// What the path of a file that isn't there names.
+/// The name of a file that isn't there.
 fn new_file<'a>(rt: &HostRuntime, path: &'a str) -> Named<'a> {
     let path = Path::new(path);
     let (Some(folder), Some(name)) = (path.parent(), path.file_name()) else {
@@ -41,7 +41,7 @@ fn new_file<'a>(rt: &HostRuntime, path: &'a str) -> Named<'a> {
     }
 }
 
-/// What a path names. What can't be looked at, opening refuses.
+/// The name of a file by its path. One that can't be looked at is refused by its opening.
 fn named_by<'a>(rt: &HostRuntime, path: &'a str) -> Named<'a> {
     match fs::metadata(rt, path) {
         Ok(found) if found.is_file() => Named::Regular(inode_of(&found)),
@@ -60,7 +60,7 @@ fn path_in(file: GivenFile<'_>) -> Option<&str> {
     }
 }
 
-/// What the path of a file names. Standard input and output may be files too.
+/// The name of a given file. Standard input and output may be files too.
 fn named_file<'a>(rt: &HostRuntime, file: GivenFile<'a>) -> NamedFile<'a> {
     let named = match path_in(file) {
         Some(path) => named_by(rt, path),
@@ -146,7 +146,7 @@ fn all_files<'a>(
     Ok(files)
 }
 
-/// What the paths of a command's files name.
+/// The names of a command's files.
 fn named_files<'a>(
     rt: &HostRuntime,
     command: Invocation<'a>,
@@ -206,7 +206,7 @@ impl Stream {
         }
     }
 
-    /// What a person is told of one that is closed.
+    /// The words for a person on one that is closed.
     fn closed_words(self) -> &'static str {
         match self {
             Stream::Input => "standard input is closed",

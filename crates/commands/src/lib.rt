@@ -14,10 +14,10 @@ mod debugging;
 mod disputed;
 mod drafting;
 mod files;
-mod given;
-mod heard;
+mod inputs;
 mod outputs;
 mod reporting;
+mod standard_input;
 
 pub use assembling::asm;
 pub use capturing::capture;
@@ -26,7 +26,7 @@ pub use cutting::cut;
 pub use debugging::debug;
 pub use drafting::links;
 pub use files::{refuse_shared, refuse_streams};
-pub use given::{MAX_LATE, is_at_terminal, text_of};
+pub use inputs::{MAX_LATE, is_at_terminal, text_of};
 pub use outputs::{
     LedgerWriter, RunSums, Spans, TextSums, arguments, blocks_of, create, create_hashed, file_in,
     format_of, shared, summarise, with_manifest, worst_links,

@@ -1,26 +1,29 @@
 //! The page on what a ledger says.
 use crate::disputed::KnownTable;
 use crate::files::refuse_shared;
-use crate::given::{is_at_terminal, shown_path, text_of};
+use crate::inputs::{is_at_terminal, shown_path, text_of};
 use crate::outputs::create;
-use analyser::read_config;
 use command_line::{
-    Contradiction, Exit, Fault, FileOption, Invocation, ManifestFault, ReportArguments, ReportFault,
+    Contradiction, CutArguments, Exit, FailOn, Fault, FileOption, Found, Invocation, ManifestFault,
+    ReportArguments, ReportFault, selection_of,
 };
-use ledger_report::{Disputed, NoReport, Report, WrongLine, read_report};
-use ledger_text::{LedgerStop, LineFault};
+use findings::Level;
+use ledger_report::{Disputed, NoReport, Part, Report, WrongLine, read_part, read_report};
+use ledger_text::LineFault;
 use pcap_io::ReadSource;
-use report_page::{Shown, has_sizes, json_of, page_of, summary_of};
+use report_page::{Shown, csv_of, failing, has_sizes, json_of, page_of, summary_of};
+use run_inputs::read_config;
 use run_manifest::{Digesting, Manifest, Sum, read_manifest, sum_of};
+use std::alloc::AllocError;
 use std::io;
-use std::io::Write;
+use std::io::{Read, Write};
 use tap_inputs::{Cause, Detail, Input, Noting, Outcome, Taps, open};
 use vl_config::Config;
 
 /// There is no memory for a report.
 const NO_REPORT: Fault = Fault::Report(ReportFault::Memory);
 
-/// What the program tells of a wrong line.
+/// The fault of a wrong line.
 fn line_fault(line: u64, wrong: WrongLine) -> ReportFault {
     let found = match wrong {
         WrongLine::Text(fault) => return ReportFault::Ledger { line, fault },
@@ -46,7 +49,7 @@ fn fault_of(fault: NoReport) -> ReportFault {
     }
 }
 
-/// What the program tells where there is no report of a baseline.
+/// The fault of a baseline of which there is no report.
 fn baseline_fault(fault: ReportFault) -> Fault {
     match fault {
         ReportFault::Memory => NO_REPORT,
@@ -54,12 +57,12 @@ fn baseline_fault(fault: ReportFault) -> Fault {
     }
 }
 
-/// What the program tells of a manifest that isn't that of the report's files.
+/// The fault of a manifest that isn't that of the report's files.
 fn not_of(fault: ManifestFault) -> Fault {
     Fault::Report(ReportFault::Manifest(fault))
 }
 
-/// What the program tells of a text that is no manifest.
+/// The fault of a text that is no manifest.
 fn no_manifest(fault: run_manifest::ManifestFault) -> Fault {
     match fault {
         run_manifest::ManifestFault::Form(error) if error.is_memory() => NO_REPORT,
@@ -104,6 +107,77 @@ fn refuse_other(rt: &HostRuntime, manifest: Option<&Manifest>, ledger: Sum) -> R
 /// A ledger that is open. Why the system gives no more of it is kept.
 type OpenLedger = Noting<Input>;
 
+/// The part of the ledger that the options take, if they don't take all.
+fn part_of(
+    rt: &HostRuntime,
+    given: &ReportArguments<'_>,
+    config: &Config,
+) -> Result<Option<Part>, Outcome> {
+    if !is_of_part(given) {
+        return Ok(None);
+    }
+    let selected = CutArguments {
+        ledger: given.ledger,
+        a: None,
+        b: None,
+        config: Some(given.config),
+        link: given.link,
+        network: given.network,
+        verdict: None,
+        from: given.from,
+        to: given.to,
+        span: None,
+        filters: None,
+        around: 0,
+        ledger_only: true,
+        pcapng: false,
+        output: given.output,
+    };
+    let selection = selection_of(rt.alloc(), &selected, Some(config))?;
+    match Part::new(rt.alloc(), selection) {
+        Ok(part) => Ok(Some(part)),
+        Err(AllocError) => Err(Outcome::from(NO_REPORT)),
+    }
+}
+
+/// Is a part of the ledger asked for?
+fn is_of_part(given: &ReportArguments<'_>) -> bool {
+    given.from.is_some() || given.to.is_some() || given.link.is_some() || given.network.is_some()
+}
+
+/// The head of a ledger, which a part of one lacks.
+const HEAD: &[u8] = b"afdx-ledger 2\n";
+
+/// How a ledger begins: its first byte, if it has one. That of a line of a frame is a digit, so the ledger is
+/// a part then.
+#[derive(Clone, Copy)]
+struct Beginning {
+    byte: [u8; 1],
+    count: usize,
+}
+
+impl Beginning {
+    /// Of a ledger that nothing was read of. Where it can't be read, that is met again as its lines are.
+    fn read(ledger: &mut OpenLedger) -> Beginning {
+        let mut byte = [0u8; 1];
+        let count = ledger.read(&mut byte).unwrap_or(0).min(1);
+        Beginning { byte, count }
+    }
+
+    fn is_part(&self) -> bool {
+        self.count == 1 && self.byte[0].is_ascii_digit()
+    }
+
+    /// The bytes that the ledger's reader has before the rest: of a part a head, and the first byte.
+    fn head(&self) -> &'static [u8] {
+        if self.is_part() { HEAD } else { b"" }
+    }
+
+    fn byte(&self) -> &[u8] {
+        if self.count == 1 { &self.byte } else { b"" }
+    }
+}
+
 /// The ledger of the baseline, if one is given.
 fn open_baseline(
     rt: &HostRuntime,
@@ -141,7 +215,7 @@ fn baseline_of(
     let Some(mut ledger) = ledger else {
         return Ok(None);
     };
-    match read_report(rt.alloc(), table.config, ReadSource::new(&mut ledger)) {
+    match read_report(rt.alloc(), table.config, ReadSource::new(&mut ledger), None) {
         Ok(report) => Ok(Some(report)),
         Err(refused) => {
             let fault = baseline_fault(fault_of(refused.fault));
@@ -150,36 +224,99 @@ fn baseline_of(
     }
 }
 
+/// The table of the baseline, where it is another one than that of the report.
+fn baseline_table(
+    rt: &HostRuntime,
+    given: &ReportArguments<'_>,
+) -> Result<Option<Config>, Outcome> {
+    let Some(path) = given.baseline_config else {
+        return Ok(None);
+    };
+    let text = text_of(rt, path, FileOption::BaselineConfig)?;
+    match read_config(rt.alloc(), &text) {
+        Ok(config) => Ok(Some(config)),
+        Err(_) => Err(Outcome::from(Fault::File(FileOption::BaselineConfig))),
+    }
+}
+
 /// The page, the numbers, or at a terminal the first part as text.
 fn text_for(
     rt: &HostRuntime,
     given: &ReportArguments<'_>,
-    report: &Report,
-    config: &Config,
-    manifest: Option<&Manifest>,
-    baseline: Option<&Report>,
+    shown: &Shown<'_>,
 ) -> Result<String, Fault> {
     let alloc = rt.alloc();
-    let shown = Shown {
-        report,
-        config,
-        sizes: has_sizes(config),
-        manifest,
-        baseline,
-        ledger: given.ledger,
-    };
     let text = if given.json {
-        json_of(alloc, &shown).ok()
+        json_of(alloc, shown).ok()
     } else if is_at_terminal(rt, given.output) {
-        summary_of(alloc, &shown).ok()
+        summary_of(alloc, shown).ok()
     } else {
-        page_of(alloc, &shown).ok()
+        page_of(alloc, shown).ok()
     };
     text.ok_or(NO_REPORT)
 }
 
+/// Writes what is asked for of a report.
+fn write_report(
+    rt: &HostRuntime,
+    given: &ReportArguments<'_>,
+    shown: &Shown<'_>,
+) -> Result<(), Outcome> {
+    let text = text_for(rt, given, shown)?;
+    write_out(rt, given.output, &text, FileOption::Output)?;
+    let Some(path) = given.csv else {
+        return Ok(());
+    };
+    match csv_of(rt.alloc(), shown) {
+        Ok(links) => write_out(rt, path, &links, FileOption::Csv),
+        Err(AllocError) => Err(Outcome::from(NO_REPORT)),
+    }
+}
+
+/// Reads a ledger: all of it, or a part.
+fn read_ledger(
+    rt: &HostRuntime,
+    ledger: &mut Digesting<OpenLedger>,
+    table: KnownTable<'_>,
+    part: Option<Part>,
+    beginning: Beginning,
+) -> Result<Report, Outcome> {
+    let (alloc, config) = (rt.alloc(), table.config);
+    ledger.tally.pass(beginning.byte());
+    let before = beginning.head().chain(beginning.byte());
+    let source = ReadSource::new(before.chain(&mut *ledger));
+    let read = if beginning.is_part() {
+        read_part(alloc, config, source, part).map_err(|fault| (fault, None))
+    } else {
+        let read = read_report(alloc, config, source, part);
+        read.map_err(|refused| (refused.fault, refused.disputed))
+    };
+    match read {
+        Ok(report) => Ok(report),
+        Err((fault, disputed)) => {
+            let fault = Fault::Report(fault_of(fault));
+            Err(no_report(rt, fault, (table, disputed), ledger.inner.refused()))
+        }
+    }
+}
+
+/// The least level of the findings that a report fails on.
+fn level_of(fail_on: FailOn) -> Level {
+    match fail_on {
+        FailOn::Trouble => Level::Trouble,
+        FailOn::Notice => Level::Notice,
+    }
+}
+
 /// How the program ends that has told of a ledger.
-fn exit_at(stop: Option<LedgerStop>) -> Exit {
+fn exit_of(given: &ReportArguments<'_>, report: &Report) -> Exit {
+    let stop = report.stop;
+    if let Some(level) = given.fail_on {
+        let count = failing(&report.findings, level_of(level));
+        if count > 0 {
+            return Exit::Found(Found { level, count, stop });
+        }
+    }
     match stop {
         None => Exit::Success,
         Some(stop) => Exit::WithoutTotal(stop),
@@ -202,31 +339,61 @@ pub fn report(
         config: &config,
     };
     let hashed = manifest.is_some_and(|manifest| manifest.outputs.ledger.sha256.is_some());
+    let part = part_of(rt, given, &config)?;
     let ledger = Noting::new(open(rt, given.ledger, FileOption::Ledger)?);
     let mut ledger = Digesting::new(ledger, hashed);
     let baseline = open_baseline(rt, given)?;
+    let earlier = baseline_table(rt, given)?;
     refuse_shared(rt, Invocation::Report(*given), taps)?;
-    let report = match read_report(rt.alloc(), &config, ReadSource::new(&mut ledger)) {
-        Ok(report) => report,
-        Err(refused) => {
-            let fault = Fault::Report(fault_of(refused.fault));
-            let error = ledger.inner.refused();
-            return Err(no_report(rt, fault, (table, refused.disputed), error));
-        }
-    };
+    let beginning = Beginning::read(&mut ledger.inner);
+    let report = read_ledger(rt, &mut ledger, table, part, beginning)?;
     refuse_other(rt, manifest, ledger.tally.end())?;
-    let baseline = baseline_of(rt, baseline, table)?;
-    let text = text_for(rt, given, &report, &config, manifest, baseline.as_ref())?;
-    write_out(rt, given.output, &text)?;
-    Ok(Outcome::from(exit_at(report.stop)))
+    let baseline = match &earlier {
+        Some(earlier) => {
+            let name = shown_path(given.baseline_config.unwrap_or(given.config));
+            let config = earlier;
+            baseline_of(rt, baseline, KnownTable { name, config })?
+        }
+        None => baseline_of(rt, baseline, table)?,
+    };
+    let before = baseline.as_ref();
+    let before_config = earlier.as_ref();
+    let before_ledger = given.baseline;
+    let title = given.title.unwrap_or(TITLE);
+    let from = given.from;
+    let to = given.to;
+    let link = given.link;
+    let network = given.network;
+    let shown = Shown {
+        report: &report,
+        config: &config,
+        sizes: has_sizes(&config),
+        manifest,
+        baseline: before,
+        baseline_config: before_config,
+        baseline_ledger: before_ledger,
+        ledger: given.ledger,
+        title,
+        from,
+        to,
+        link,
+        network,
+        partial: beginning.is_part(),
+        fail_on: given.fail_on.map(|fail_on| level_of(fail_on)),
+    };
+    write_report(rt, given, &shown)?;
+    Ok(Outcome::from(exit_of(given, &report)))
 }
 
-/// Writes a text to the output.
-fn write_out(rt: &HostRuntime, path: &str, text: &str) -> Result<(), Outcome> {
-    let mut output = create(rt, path, FileOption::Output)?;
+/// The title of a page that is given none.
+const TITLE: &str = "AFDX recording";
+
+/// Writes a text to the file of an option.
+fn write_out(rt: &HostRuntime, path: &str, text: &str, option: FileOption) -> Result<(), Outcome> {
+    let mut output = create(rt, path, option)?;
     let written = match output.write_all(text.as_bytes()) {
         Ok(()) => output.flush(),
         Err(error) => Err(error),
     };
-    written.map_err(|error| Outcome::of_file(FileOption::Output, Cause::System(error)))
+    written.map_err(|error| Outcome::of_file(option, Cause::System(error)))
 }

@@ -53,7 +53,7 @@ pub(crate) fn fed_ring<R: Wait>(
     Ok((fed, end))
 }
 
-/// What was taken from a ring, and its end.
+/// The items that were taken from a ring, and its end.
 #[derive(Drop)]
 pub(crate) struct Taken {
     pub(crate) items: Vec<TapItem>,

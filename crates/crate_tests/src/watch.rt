@@ -37,7 +37,7 @@ use watch_run::{OpenGate, RunObserver, Watched, watch, watch_whole};
 /// A filter that rejects the sequence number 1 and keeps 64 bytes of any other frame.
 pub const NOT_FIRST: &str = "4,48 0 0 59,21 1 0 1,6 0 0 64,6 0 0 0,";
 
-/// What a run is given: the text of the table, the filters, and the bytes of both recordings.
+/// The inputs of a run: the text of the table, the filters, and the bytes of both recordings.
 #[derive(Clone, Copy)]
 pub struct Given<'a> {
     pub table: &'a str,
@@ -98,7 +98,7 @@ pub type Source = Counted<MemSource>;
 
 pub type Sink = Counted<MemSink>;
 
-/// What a run has left.
+/// The remains of a run.
 #[derive(Drop)]
 pub struct Ran {
     pub outcome: Result<WatchCounts, WatchFault>,

@@ -15,7 +15,7 @@ use std::alloc::{AllocError, Global};
 /// The lines of a ledger that are near selected ones, with the device that it was read from.
 #[derive(Drop)]
 pub struct NeighboursRun<L> {
-    /// What was noted of the lines, or why the run was aborted.
+    /// The notes of the lines, or the fault that aborted the run.
     pub outcome: Result<Neighbours, CutFault>,
     /// The ledger's source.
     pub ledger: L,

@@ -8,7 +8,7 @@ use crate::place::{SearchPlace, is_below, place_order};
 use afdx_frame::TapFrame;
 use std::collections::BTreeMap;
 
-/// Whether a frame was passed that is below the place.
+/// True if a frame was passed that is below the place.
 #[inline(always)]
 fn has_below(passed: &BTreeMap<SearchPlace, TapFrame>, place: SearchPlace) -> bool
     ensures below { result ≡ true → (q : SearchPlace) × IsSome (passed_at passed.now q) × IsBelow q place }

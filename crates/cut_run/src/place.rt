@@ -25,12 +25,12 @@ impl SearchPlace {
     }
 }
 
-/// What `Ord` says of places: the timestamp decides, then the index.
+/// The order of places: the timestamp decides, then the index.
 pub(crate) fn place_order()
     ensures { (p q : SearchPlace) → ⟦<SearchPlace as Ord>⟧.cmp p q ≡ place_cmp p q }
 {}
 
-/// Whether the first place is below the second.
+/// True if the first place is below the second.
 #[inline(always)]
 pub(crate) fn is_below(first: SearchPlace, second: SearchPlace) -> bool
     ensures { result ≡ is_below first second }
@@ -39,7 +39,7 @@ pub(crate) fn is_below(first: SearchPlace, second: SearchPlace) -> bool
     first < second
 }
 
-/// Whether the frame is of the place.
+/// True if the frame is of the place.
 #[inline(always)]
 pub(crate) fn is_of(frame: &TapFrame, place: SearchPlace) -> bool
     ensures same { result ≡ true → place_of frame.now ≡ place }

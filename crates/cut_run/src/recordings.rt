@@ -59,7 +59,7 @@ pub(crate) fn is_read(skips: Option<Network>, network: Network) -> bool
     }
 }
 
-/// Whether the frame of a line comes later than the last one, where there is one.
+/// True if the frame of a line comes later than the last one, where there is one.
 #[inline]
 fn comes_later(last: Option<Key>, line: &FrameLine) -> bool
     ensures { IsTrue result ↔ ComesLater last line.now }

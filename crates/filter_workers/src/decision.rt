@@ -11,7 +11,7 @@ use bpf_machine::run;
 /// The most filters of a run: a bit of a mask for each.
 pub const MAX_FILTERS: usize = 8;
 
-/// What the filters say of a frame.
+/// The decision of the filters on a frame.
 #[derive(Clone, Copy, PartialEq, Eq)]
 pub struct Decision {
     /// Bit i is set where filter i accepts the frame.

@@ -112,7 +112,7 @@ impl FrameRecord {
         .unwrap()
     }
 
-    /// What is known of the bytes.
+    /// The facts of the frame's bytes.
     #[inline(always)]
     fn facts(&self) -> Facts
         ensures { result ≡ record_facts self.now }

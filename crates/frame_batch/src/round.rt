@@ -87,7 +87,7 @@ impl Round {
         self.draft.places.len()
     }
 
-    /// Whether there is no frame.
+    /// True if there is no frame.
     #[inline(always)]
     pub fn is_empty(&self) -> bool
         ensures { IsTrue result ↔ self.now ≡ [] }

@@ -48,7 +48,7 @@ pub enum FrameFault {
     Fields,
 }
 
-/// What is wrong with a line at its place in a ledger.
+/// The faults of a line at its place in a ledger.
 #[derive(Clone, Copy, Debug, PartialEq, Eq, Error)]
 pub enum LineFault {
     /// The first line is not `afdx-ledger 2`.
@@ -82,7 +82,7 @@ pub enum ReadFault {
     Line {
         /// The line, counted from 1: that of the head.
         number: u64,
-        /// What is wrong with it.
+        /// The fault of that line.
         fault: LineFault,
     },
     /// The reader had failed before.

@@ -18,7 +18,7 @@ use afdx_frame::{LentFrame, Network, Stamp, VlId};
 use vl_config::Class;
 use vl_judge::Verdict;
 
-/// What the line of a frame says.
+/// The content of the line of a frame.
 #[derive(Clone, Copy, PartialEq, Eq)]
 pub struct FrameLine {
     /// The timestamp.
@@ -40,7 +40,7 @@ pub struct FrameLine {
 }
 
 impl FrameLine {
-    /// What the line of a frame says that has this verdict, of which a filter keeps so many bytes, and which
+    /// The line of a frame that has this verdict, of which a filter keeps so many bytes, and which
     /// these filters accept.
     #[inline]
     pub fn of(frame: &LentFrame<'_>, verdict: &Verdict, kept: Option<u32>, mask: u8) -> FrameLine

@@ -6,7 +6,7 @@ pub fn line_reads_one_way()
     ensures { LineReadsOneWay }
 {}
 
-/// What a ledger writes of an entry reads back as what the line shows of it, and no other line does.
+/// An entry that a ledger writes reads back as the line that shows it, and no other line does.
 pub fn entries_read_back()
     ensures { EntriesReadBack }
 {}

@@ -9,7 +9,7 @@ use memchr::memchr;
 use pcap_io::{DeviceFault, TapSource};
 use std::alloc::{AllocError, Global};
 
-/// What stands next in a source.
+/// The next thing in a source.
 #[derive(Clone, Copy, PartialEq, Eq)]
 pub enum LineFound {
     /// A line and its newline.
@@ -229,7 +229,7 @@ impl<S: TapSource> LineSource<S> {
         Ok(LineFound::Long)
     }
 
-    /// What the unread bytes are where the source has ended.
+    /// The unread bytes where the source has ended: a last line, or none.
     fn last(&mut self) -> LineFound
         requires line { NoNewline (unread_of self.old) }
         requires short { length (unread_of self.old) < BLOCK_LEN }

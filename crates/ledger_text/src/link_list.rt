@@ -16,7 +16,7 @@ use std::alloc::{AllocError, Global};
 use thiserror::Error;
 use vl_config::{Config, Link};
 
-/// What is wrong with an item of a list of links.
+/// The faults of an item of a list of links.
 #[derive(Clone, Copy, Debug, PartialEq, Eq, Error)]
 pub enum ItemFault {
     /// There is nothing between two commas, or at an end.
@@ -36,7 +36,7 @@ pub enum ItemFault {
     NoSuchLink,
 }
 
-/// What is wrong with a list of links.
+/// The faults of a list of links.
 #[derive(Clone, Copy, Debug, PartialEq, Eq, Error)]
 pub enum LinkSetFault {
     /// The first item that is wrong, counted from 0, and why.

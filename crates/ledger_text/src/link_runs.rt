@@ -32,7 +32,7 @@ fn add(runs: &mut Vec<Run>, around: u32, ordinal: u64) -> Result<(), AllocError>
     Ok(())
 }
 
-/// What is kept of a link: how many of its lines were noted, and the runs of those that are selected; then
+/// The record of a link: how many of its lines were noted, and the runs of those that are selected; then
 /// how many were asked for.
 #[derive(Drop)]
 pub(crate) struct LinkRuns {

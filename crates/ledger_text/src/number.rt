@@ -23,7 +23,7 @@ fn value_of(digits: &[u8]) -> u64
     value
 }
 
-/// Whether these are decimal digits alone.
+/// True if these are decimal digits alone.
 #[inline]
 fn are_digits(bytes: &[u8]) -> bool
     ensures { result ≡ list_all is_ascii_digit bytes.now }
@@ -31,7 +31,7 @@ fn are_digits(bytes: &[u8]) -> bool
     bytes.iter().all(u8::is_ascii_digit)
 }
 
-/// Whether these are digits alone, at most 19, with no leading zero but that of 0.
+/// True if these are digits alone, at most 19, with no leading zero but that of 0.
 #[inline]
 fn is_plain(field: &[u8]) -> bool
     ensures { IsTrue result ↔ IsPlain field.now }

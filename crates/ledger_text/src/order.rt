@@ -22,7 +22,7 @@ pub enum Counts {
     Total,
 }
 
-/// What stands before the next line.
+/// The stages of a ledger, by what stands before the next line.
 #[derive(Clone, Copy, PartialEq, Eq)]
 pub enum LedgerStage {
     /// Nothing: the head is next.

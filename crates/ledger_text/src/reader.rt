@@ -19,7 +19,7 @@ pub struct LedgerStop {
     pub within_line: bool,
 }
 
-/// What a reader finds next.
+/// The next thing that a reader finds.
 #[derive(Clone, Copy, PartialEq, Eq)]
 pub enum FoundLine {
     /// A line, whose bytes the reader lends.
@@ -30,7 +30,7 @@ pub enum FoundLine {
     Incomplete(LedgerStop),
 }
 
-/// What stands before the line after this one.
+/// The stage before the line after this one.
 #[inline]
 fn stage_after(line: &LedgerLine) -> LedgerStage
     ensures { result ≡ stage_after line.now }
@@ -151,7 +151,7 @@ impl<S: TapSource> LedgerReader<S> {
         }
     }
 
-    /// What the end is, within a line or not.
+    /// The end that is met, within a line or not.
     fn end(&self, within_line: bool) -> FoundLine
         ensures { IsEnd self.now.stage self.now.number within_line result }
     {
@@ -164,7 +164,7 @@ impl<S: TapSource> LedgerReader<S> {
         }
     }
 
-    /// What a last line without a newline is. After the line `total` nothing may stand.
+    /// The find of a last line without a newline. After the line `total` nothing may stand.
     fn unended(&self) -> Result<FoundLine, ReadFault>
         ensures { IsUnended self.now.stage self.now.number result }
     {

@@ -12,7 +12,7 @@ use std::alloc::{AllocError, Global};
 use thiserror::Error;
 use vl_config::Class;
 
-/// What is wrong with a list of words.
+/// The faults of a list of words.
 #[derive(Clone, Copy, Debug, PartialEq, Eq, Error)]
 pub enum WordFault {
     /// The first item that names no word, counted from 0.
@@ -68,7 +68,7 @@ fn text_of(word: Word) -> &'static str
     }
 }
 
-/// What became of a frame whose last word this is; the word itself where it is no last one.
+/// The fate of a frame whose last word this is; the word itself where it is no last one.
 fn group_of(word: Word) -> &'static str
     ensures { result.now ≡ group_text word }
 {

@@ -38,7 +38,7 @@ fn is_valid(integrity: Option<Integrity>) -> bool
     !matches!(integrity, None | Some(Integrity::Out))
 }
 
-/// What policing says by the bytes; a dash where the class is not regular.
+/// The verdict of policing by the bytes; a dash where the class is not regular.
 #[inline]
 pub fn policing_of(field: &[u8], class: Class) -> Option<Option<Policing>>
     ensures { Reads (Optional Any (is_regular class)) (dash_or policing_word) field.now result }
@@ -50,7 +50,7 @@ pub fn policing_of(field: &[u8], class: Class) -> Option<Option<Policing>>
     }
 }
 
-/// What integrity checking says by the bytes; a dash where policing doesn't say `within`.
+/// The verdict of integrity checking by the bytes; a dash where policing doesn't say `within`.
 #[inline]
 pub fn integrity_of(field: &[u8], policing: Option<Policing>) -> Option<Option<Integrity>>
     ensures { Reads (Optional Any (option_map_or is_within policing false))
@@ -63,7 +63,7 @@ pub fn integrity_of(field: &[u8], policing: Option<Policing>) -> Option<Option<I
     }
 }
 
-/// What redundancy management says by the bytes; a dash where integrity checking finds the frame invalid.
+/// The verdict of redundancy management by the bytes; a dash where the frame is invalid.
 #[inline]
 pub fn redundancy_of(field: &[u8], integrity: Option<Integrity>) -> Option<Option<Redundancy>>
     ensures { Reads (Optional Any (option_map_or is_valid integrity false))

@@ -7,4 +7,4 @@
 
 mod messages;
 
-pub use messages::{Known, STANDARD_AMONG, tell};
+pub use messages::{CommandEnd, STANDARD_AMONG, tell};

@@ -9,7 +9,6 @@ use command_line::{
     source_offset, written_as,
 };
 use cut_run::CutFault;
-use icd_links::IcdFault;
 use ledger_text::LedgerStop;
 use pcap_io::{Ending, HeaderFault};
 use run_fault::WatchFault;
@@ -46,16 +45,16 @@ impl Display for StopNote<'_> {
     }
 }
 
-/// What is told of a command's end.
+/// The end of a command, for its messages.
 #[derive(Clone, Copy)]
-pub struct Known<'a> {
+pub struct CommandEnd<'a> {
     pub outcome: &'a Outcome,
     pub taps: &'a Taps,
     /// Is a person told all of it? Else there is the fault line, or the notes.
     pub full: bool,
 }
 
-impl<'a> Known<'a> {
+impl<'a> CommandEnd<'a> {
     /// The filter's source in which a fault lies.
     fn source(&self) -> Option<&'a str> {
         match &self.outcome.detail {
@@ -64,7 +63,7 @@ impl<'a> Known<'a> {
         }
     }
 
-    /// The interfaces or the files that a fault is about.
+    /// The interfaces, the files or the faults of a document that a fault is about.
     fn listed(&self) -> Option<&'a str> {
         match &self.outcome.detail {
             Some(Detail::Listed(text)) => Some(text),
@@ -80,7 +79,7 @@ impl<'a> Known<'a> {
         }
     }
 
-    /// What is wrong with a stream.
+    /// The fault of a stream.
     fn stream(&self) -> Option<&'a str> {
         match &self.outcome.detail {
             Some(Detail::Stream(text)) => Some(text),
@@ -119,7 +118,7 @@ fn is_standard_among(command: Invocation<'_>, file: FileOption, taps: &Taps) -> 
     tap_of(taps, file).is_some_and(|tap| tap.is_of_several()) && path_of(command, file).is_none()
 }
 
-/// What a ledger or a manifest that is read needs. None: it is none, or is written.
+/// The need of a ledger or a manifest that is read. None: it is none, or is written.
 fn needs_to_be_read(command: Invocation<'_>, file: FileOption) -> Option<&'static str> {
     if command.file_of(file).is_some_and(|file| file.is_written) {
         return None;
@@ -132,7 +131,7 @@ fn needs_to_be_read(command: Invocation<'_>, file: FileOption) -> Option<&'stati
     }
 }
 
-/// What a person knows a file by: its path, or the stream or option that is in its place.
+/// The name of a file for a person: its path, or the stream or option that is in its place.
 fn name_of<'a>(command: Invocation<'a>, file: FileOption) -> Option<Shown<'a>> {
     match command.file_of(file) {
         Some(
@@ -219,18 +218,18 @@ fn show_caret(rt: &HostRuntime, text: &str, at: usize) -> io::Result<()> {
     }
 }
 
-/// What a ledger that is read needs.
+/// The need of a ledger that is read.
 const LEDGER_ADVICE: &str = "--ledger needs a ledger that can be read: a file of watch, or a pipe";
 
-/// What the ledger of an earlier flight needs.
+/// The need of the ledger of an earlier flight.
 const BASELINE_ADVICE: &str =
     "--baseline needs a ledger that can be read: a file of watch, or a pipe";
 
-/// What a manifest that is read needs.
+/// The need of a manifest that is read.
 const MANIFEST_ADVICE: &str =
     "--manifest needs a manifest that can be read: a file of watch, at most 16 MiB of UTF-8";
 
-/// What a person is told who names standard input beside other files of a recording.
+/// The words for a person who names standard input beside other files of a recording.
 pub const STANDARD_AMONG: &str =
     "'-' can't be one of several files of a recording: name standard input /dev/stdin there";
 
@@ -263,7 +262,7 @@ fn explain_read(
     command: Invocation<'_>,
     file: FileOption,
     fault: &Fault,
-    known: Known<'_>,
+    known: CommandEnd<'_>,
 ) -> io::Result<()> {
     let tap = tap_of(known.taps, file);
     let failed = tap.and_then(|tap| {
@@ -304,13 +303,20 @@ fn explain_table(rt: &HostRuntime, command: Invocation<'_>, fault: ConfigFault) 
     rt.eprintln(slip.allowed.as_str())
 }
 
-/// Tells what is wrong in a line of a document of links.
-fn explain_icd(rt: &HostRuntime, name: Option<Shown<'_>>, fault: IcdFault) -> io::Result<()> {
-    let advice = Advice(&Fault::Icd(fault));
-    match (name, fault.line()) {
-        (Some(name), Some(line)) => eprintln!(rt; "{name}:{line}: {advice}"),
-        _ => advise(rt, name, advice),
+/// Tells all that is wrong with a document of links, each fault after its line.
+fn explain_icd(
+    rt: &HostRuntime,
+    name: Option<Shown<'_>>,
+    fault: &Fault,
+    listed: Option<&str>,
+) -> io::Result<()> {
+    let (Some(name), Some(listed)) = (name, listed) else {
+        return advise(rt, name, Advice(fault));
+    };
+    for line in listed.lines() {
+        eprintln!(rt; "{name}:{line}")?;
     }
+    Ok(())
 }
 
 /// Tells what is wrong with a manifest first, where its text can be had again.
@@ -466,7 +472,7 @@ fn explain_named(
     command: Invocation<'_>,
     file: FileOption,
     fault: &Fault,
-    known: Known<'_>,
+    known: CommandEnd<'_>,
 ) -> io::Result<()> {
     if is_standard_among(command, file, known.taps) {
         return rt.eprintln(STANDARD_AMONG);
@@ -483,7 +489,7 @@ fn explain_watch(
     command: Invocation<'_>,
     file: FileOption,
     fault: WatchFault,
-    known: Known<'_>,
+    known: CommandEnd<'_>,
 ) -> io::Result<()> {
     let told = Fault::Watch(fault);
     match (fault, known.stream()) {
@@ -500,7 +506,7 @@ fn explain_cut(
     command: Invocation<'_>,
     file: FileOption,
     fault: CutFault,
-    known: Known<'_>,
+    known: CommandEnd<'_>,
 ) -> io::Result<()> {
     let told = Fault::Cut(fault);
     match fault {
@@ -517,7 +523,7 @@ fn explain_report(
     file: FileOption,
     fault: ReportFault,
     told: &Fault,
-    known: Known<'_>,
+    known: CommandEnd<'_>,
 ) -> io::Result<()> {
     let name = name_of(command, file);
     match (fault, name, known.disputed()) {
@@ -554,7 +560,7 @@ fn explain(
     rt: &HostRuntime,
     command: Invocation<'_>,
     fault: &Fault,
-    known: Known<'_>,
+    known: CommandEnd<'_>,
 ) -> io::Result<()> {
     let file = file_of(fault);
     let name = file.and_then(|file| name_of(command, file));
@@ -572,7 +578,7 @@ fn explain(
             explain_report(rt, command, file, found, fault, known)
         }
         (Fault::Config(fault), _) => explain_table(rt, command, fault),
-        (Fault::Icd(fault), _) => explain_icd(rt, name, fault),
+        (Fault::Icd(_), _) => explain_icd(rt, name, fault, known.listed()),
         (Fault::Asm(fault), _) => explain_source(rt, command, fault, known.source()),
         (Fault::Numeric { filter, .. } | Fault::Load { filter, .. }, _) => {
             explain_filter(rt, command, fault, filter)
@@ -640,7 +646,7 @@ fn note_ending(
     command: Invocation<'_>,
     network: Network,
     ending: Ending,
-    known: Known<'_>,
+    known: CommandEnd<'_>,
 ) -> io::Result<()> {
     if let Ending::Clean(_) = ending {
         return Ok(());
@@ -654,9 +660,15 @@ fn note_ending(
     explain_ending(rt, command, file, ending, known.full)
 }
 
+/// Notes where a ledger ends before its line `total`.
+fn tell_stop(rt: &HostRuntime, command: Invocation<'_>, stop: LedgerStop) -> io::Result<()> {
+    let name = name_of(command, FileOption::Ledger).unwrap_or(Shown("ledger"));
+    rt.eprintln(StopNote { name, stop })
+}
+
 /// Tells standard error how a command ended: the fault line or the notes, and in full which file it is about,
 /// where in it a fault lies, and what to do.
-pub fn tell(rt: &HostRuntime, command: Invocation<'_>, known: Known<'_>) -> io::Result<()> {
+pub fn tell(rt: &HostRuntime, command: Invocation<'_>, known: CommandEnd<'_>) -> io::Result<()> {
     match &known.outcome.exit {
         Exit::Success => Ok(()),
         Exit::Terminal => rt.eprintln(TO_A_TERMINAL),
@@ -669,9 +681,12 @@ pub fn tell(rt: &HostRuntime, command: Invocation<'_>, known: Known<'_>) -> io::
             note_ending(rt, command, Network::A, run.a, known)?;
             note_ending(rt, command, Network::B, run.b, known)
         }
-        Exit::WithoutTotal(stop) => {
-            let name = name_of(command, FileOption::Ledger).unwrap_or(Shown("ledger"));
-            rt.eprintln(StopNote { name, stop: *stop })
+        Exit::WithoutTotal(stop) => tell_stop(rt, command, *stop),
+        Exit::Found(found) => {
+            if let Some(stop) = found.stop {
+                tell_stop(rt, command, stop)?;
+            }
+            rt.eprintln(*found)
         }
         Exit::Fault(fault) => {
             match (fault, known.listed()) {

@@ -68,7 +68,7 @@ impl TapBuffer {
         self.ended = true;
     }
 
-    /// Whether no frame follows.
+    /// True if no frame follows.
     #[inline(always)]
     pub(crate) fn has_ended(&self) -> bool
         ensures { result ≡ self.now.tap.ended }
@@ -84,7 +84,7 @@ impl TapBuffer {
         self.high
     }
 
-    /// Whether the frame may be the tap's next.
+    /// True if the frame may be the tap's next.
     pub(crate) fn can_push(&self, late: u64, frame: &TapFrame) -> bool
         ensures { IsTrue result ↔ IsNextOf late self.now.tap frame.now }
     {
@@ -107,7 +107,7 @@ impl TapBuffer {
         Ok(())
     }
 
-    /// What is known of the numbers of the frames.
+    /// A fact that is known of the numbers of the frames.
     pub(crate) fn note_numbers(&self)
         ensures { AllByRecursion (λ f. f.number < self.now.tap.next) self.now.frames }
     {
@@ -312,7 +312,7 @@ fn place_of(late: &VecDeque<TapFrame>, key: Key) -> usize
     0
 }
 
-/// Whether none of a tap's next frames comes late.
+/// True if none of a tap's next frames comes late.
 fn none_late(queue: &FrameQueue, batch: &FrameBatch) -> bool
     ensures late { IsTrue result → NoneLate queue.now (batch_frames batch.now) }
     ensures fit { IsTrue result → AllByRecursion (λ f. f.stamp < 2 ^ 63) (batch_frames batch.now) }
@@ -320,7 +320,7 @@ fn none_late(queue: &FrameQueue, batch: &FrameBatch) -> bool
     !is_late(queue, batch.first().key()) && are_in_order(batch)
 }
 
-/// Whether no frame's key is below that of the one before it.
+/// True if no frame's key is below that of the one before it.
 fn are_in_order(batch: &FrameBatch) -> bool
     ensures order { IsTrue result → AreInOrder (batch_frames batch.now) }
     ensures fit { IsTrue result → AllByRecursion (λ f. f.stamp < 2 ^ 63) (batch_frames batch.now) }
@@ -338,7 +338,7 @@ fn are_in_order(batch: &FrameBatch) -> bool
     true
 }
 
-/// Whether a frame of this key comes before the queue's last.
+/// True if a frame of this key comes before the queue's last.
 #[inline(always)]
 fn is_late(queue: &FrameQueue, key: Key) -> bool
     ensures { (frame : Frame) → key_of frame ≡ key → result ≡ is_late queue.now frame }
@@ -358,7 +358,7 @@ fn highest(high: Option<u64>, stamp: u64) -> u64
     }
 }
 
-/// Whether a timestamp is no further than `late` below the greatest one before it.
+/// True if a timestamp is no further than `late` below the greatest one before it.
 fn is_in_time(late: u64, high: Option<u64>, stamp: u64) -> bool
     ensures { IsTrue result ↔ ForSome high (λ high. high ≤ stamp + late) }
 {
@@ -368,7 +368,7 @@ fn is_in_time(late: u64, high: Option<u64>, stamp: u64) -> bool
     }
 }
 
-/// Whether the first frame of all is one that came late.
+/// True if the first frame of all is one that came late.
 #[inline(always)]
 fn late_leads(queue: &FrameQueue, late: &VecDeque<TapFrame>) -> bool
     ensures { result ≡ leads late.now.items queue.now }

@@ -19,7 +19,7 @@ pub(crate) struct TapCursor<'a> {
     late: &'a VecDeque<TapFrame>,
     /// How many of those that came late were copied.
     passed: usize,
-    /// Whether the first frame that is left is one that came late.
+    /// True if the first frame that is left is one that came late.
     is_late: bool,
     /// The key of the first frame that is left.
     first: Option<Key>,
@@ -28,7 +28,7 @@ pub(crate) struct TapCursor<'a> {
         (cond is_late (drop passed late.now.items) (cursor_left queue)) 0) },
 }
 
-/// Whether the first of all frames is the first list's, where each list begins with a frame of this key, or
+/// True if the first of all frames is the first list's, where each list begins with a frame of this key, or
 /// is empty.
 #[inline(always)]
 fn key_leads(first: Option<Key>, other: Option<Key>) -> bool
@@ -74,7 +74,7 @@ impl<'a> TapCursor<'a> {
         TapCursor::at(queue, late, 0)
     }
 
-    /// Whether the first frame that is left of both is this one's.
+    /// True if the first frame that is left of both is this one's.
     #[inline(always)]
     pub(crate) fn leads(&self, other: &TapCursor<'_>) -> bool
         requires late_rises { IsRising (late_left self.now) }

@@ -6,8 +6,8 @@ pub fn one_order()
     ensures { OneOrder }
 {}
 
-/// What a merger gives along a run: the frames that it cut, followed by those pending, are in order and
-/// are all that it fetched, and no frame that may still come has a key below a cut one. A new merger
+/// The order that a merger keeps along a run: the frames that it cut, followed by those pending, are in order
+/// and are all that it fetched, and no frame that may still come has a key below a cut one. A new merger
 /// begins so, and each call keeps it.
 pub fn runs_follow()
     ensures new { NewFollows }

@@ -63,7 +63,7 @@ impl Merger {
         }
     }
 
-    /// Whether the frame may come next: its network hasn't ended, its number is the next, and its
+    /// True if the frame may come next: its network hasn't ended, its number is the next, and its
     /// timestamp is within the window.
     pub fn can_fetch(&self, frame: &TapFrame) -> bool
         ensures { IsTrue result ↔ CanFetch self.now frame.now }
@@ -104,7 +104,7 @@ impl Merger {
         }
     }
 
-    /// Whether so many frames are safe.
+    /// True if so many frames are safe.
     pub fn has_round(&self, most: usize) -> bool
         ensures { IsTrue result ↔ length (cut_frames self.now most) ≡ most }
     {

@@ -5,7 +5,7 @@ ghost use Rattle.afdx_frame.specs.Frame.{key_cmp};
 
 use afdx_frame::{Key, key_order};
 
-/// Whether the first key is below the second.
+/// True if the first key is below the second.
 #[inline(always)]
 pub(crate) fn comes_before(first: Key, second: Key) -> bool
     ensures { result ≡ is_lt (key_cmp first second) }

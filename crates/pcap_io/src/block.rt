@@ -442,7 +442,7 @@ impl<S: TapSource> BlockSource<S> {
         }
     }
 
-    /// What the last draw gave.
+    /// The bytes that the last draw gave.
     #[inline(always)]
     pub fn drawn(&self) -> &[u8]
         ensures { result.now ≡ drawn_bytes self.now }
@@ -451,7 +451,7 @@ impl<S: TapSource> BlockSource<S> {
         &self.bytes()[from..start]
     }
 
-    /// What was read ahead and not drawn.
+    /// The bytes that were read ahead and not drawn.
     #[inline(always)]
     pub fn unread(&self) -> &[u8]
         ensures { result.now ≡ unread_bytes self.now }

@@ -26,10 +26,10 @@ pub trait TapSource {
     /// How often the device has failed.
     ghost failures: { Self → ℕ };
 
-    /// What it tells of its recording once it has given all bytes.
+    /// The word that it has of its recording once it has given all bytes.
     ghost told: { Self → Told } = { λ _. Nothing };
 
-    /// Whether it has come to the end.
+    /// True if it has come to the end.
     ghost is_over: { Self → Bool } = { λ _. true };
 
     /// Reads the next bytes into a prefix of the buffer, and returns how many. 0 for a buffer with
@@ -43,12 +43,12 @@ pub trait TapSource {
         ensures no_failure { OnOk result (NoFailure (failures self.old) (failures self.new)) }
         ensures fault { OnErr result (CountsFailure (failures self.old) (failures self.new)) };
 
-    /// What it tells of its recording, at its end. A device tells nothing; what reads a recording of another
+    /// The word that it has of its recording, at its end. A device says nothing; a reader of another
     /// format tells what pcap can't say.
     fn told(&self) -> Told
         ensures { is_over self.now ≡ true → Tells (remaining self.now) result (told self.now) };
 
-    /// What it exposes is bytes.
+    /// It exposes bytes alone.
     ghost gives_bytes: { (s : Self) → IfSome (remaining s) IsBytes };
 }
 

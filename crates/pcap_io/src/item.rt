@@ -33,7 +33,7 @@ pub enum Taken {
     End(Ending),
 }
 
-/// What stands at a reader's place.
+/// The kinds of things that stand at a reader's place.
 #[derive(Clone, Copy, PartialEq, Eq)]
 pub enum Found {
     /// A frame, which the reader lends until the next call.

@@ -56,7 +56,7 @@ impl PacketHeader {
         u64::from(self.seconds) * 1_000_000_000 + u64::from(self.fraction) * unit
     }
 
-    /// Whether its first two fields are the first eight bytes of a pcap file: a magic number of
+    /// True if its first two fields are the first eight bytes of a pcap file: a magic number of
     /// microseconds or of nanoseconds, and version 2.4, in the reader's byte order or in the other.
     #[cold]
     #[inline(never)]
@@ -72,7 +72,7 @@ impl PacketHeader {
         }
     }
 
-    /// Whether a pcap file's header stands here, with its fields `thiszone` and `sigfigs` at 0.
+    /// True if a pcap file's header stands here, with its fields `thiszone` and `sigfigs` at 0.
     #[inline(always)]
     fn is_file_header(&self) -> bool
         ensures { result ≡ is_file_header self.now }
@@ -80,7 +80,7 @@ impl PacketHeader {
         self.captured_len == 0 && self.original_len == 0 && self.is_file_start()
     }
 
-    /// What is wrong with the header after packets whose greatest timestamp is `high`, where a timestamp may
+    /// The fault of the header after packets whose greatest timestamp is `high`, where a timestamp may
     /// come `late` nanoseconds late: the first reason that fits.
     #[inline(always)]
     pub fn reason(&self, layout: Layout, late: u64, high: u64) -> Option<BadReason>

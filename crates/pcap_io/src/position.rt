@@ -65,7 +65,7 @@ impl Position {
     }
 }
 
-/// What stands at a reader's place.
+/// The kinds of things that stand at a reader's place.
 #[derive(Clone, Copy)]
 pub enum Start {
     /// The header of a packet that may stand there.
@@ -74,8 +74,8 @@ pub enum Start {
     End(Ending),
 }
 
-/// What the bytes at a reader's place begin, the first `came` of which are there. Where none is, the source
-/// tells this.
+/// The thing that the bytes at a reader's place begin, the first `came` of which are there. Where none is,
+/// the source says this.
 #[inline(always)]
 pub fn start_of(position: &Position, bytes: &[u8], came: usize, told: Told) -> Start
     requires size { length bytes.now ≡ PACKET_HEADER_LEN }

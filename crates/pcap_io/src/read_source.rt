@@ -37,7 +37,7 @@ impl<R: Read> ReadSource<R> {
     }
 }
 
-/// What a source answers where a reader returned this.
+/// The answer of a source whose reader returned this.
 #[inline]
 fn read_answer(returned: io::Result<usize>) -> Result<usize, DeviceFault>
     ensures { result ≡ read_answer returned }

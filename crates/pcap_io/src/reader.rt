@@ -175,7 +175,7 @@ impl<S: TapSource> TapReader<S> {
         reader
     }
 
-    /// What the source tells, where the bytes of a packet's header were to come and none did.
+    /// The source's word, where the bytes of a packet's header were to come and none did.
     #[inline(always)]
     fn told_after(&self, came: usize) -> Told
         ensures { came ≡ 0 → S.is_over (source_of self.now) ≡ true
@@ -499,7 +499,7 @@ impl<S: TapSource> TapReader<S> {
         true
     }
 
-    /// Whether the next packet was read ahead whole: then the next call reads nothing of the source, and
+    /// True if the next packet was read ahead whole: then the next call reads nothing of the source, and
     /// doesn't wait for it.
     pub fn holds_packet(&self) -> bool
         ensures { IsTrue result ↔ HoldsPacket (position_of self.now).layout (unread_of self.now) }

@@ -101,7 +101,7 @@ impl Ending {
     }
 }
 
-/// Whether a reader goes on.
+/// The stage of a reader: it goes on, or is over.
 #[derive(Clone, Copy, PartialEq, Eq)]
 pub enum Stage {
     Going,

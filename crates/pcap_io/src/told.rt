@@ -5,8 +5,8 @@ ghost use Rattle.pcap_io.specs.Told.{told_ending, told_fault};
 use crate::layout::HeaderFault;
 use crate::recording::{BadReason, Ending};
 
-/// What is told once the bytes are at their end. A pcap file tells nothing; one of another format, whose
-/// packets are given as pcap, tells what pcap can't say.
+/// The word of a source once its bytes are at their end. A pcap file says nothing; one of another format,
+/// whose packets are given as pcap, says what pcap can't.
 #[derive(Clone, Copy, PartialEq, Eq)]
 pub enum Told {
     /// The bytes say all.
@@ -33,7 +33,7 @@ impl Told {
         }
     }
 
-    /// What is wrong with a recording whose bytes end before a file header does.
+    /// The fault of a recording whose bytes end before a file header does.
     pub fn fault(self) -> HeaderFault
         ensures { result ≡ told_fault self }
     {

@@ -33,7 +33,7 @@ impl<W: Write> WriteSink<W> {
     }
 }
 
-/// What a sink answers where a writer that was given so many bytes returned this. One that took none
+/// The answer of a sink whose writer was given so many bytes and returned this. One that took none
 /// of some bytes has failed.
 #[inline]
 fn write_answer(asked: usize, returned: io::Result<usize>) -> Result<usize, DeviceFault>

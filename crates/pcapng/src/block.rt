@@ -39,7 +39,7 @@ const PACKET_LEN: usize = 32;
 /// Where the captured bytes of a packet start.
 pub const CAPTURED_AT: usize = 28;
 
-/// What a block is.
+/// The kinds of blocks.
 #[derive(Clone, Copy, PartialEq, Eq)]
 pub enum BlockKind {
     Section,
@@ -78,7 +78,7 @@ impl BlockKind {
         }
     }
 
-    /// Whether such a block that is read can have this length.
+    /// True if such a block that is read can have this length.
     #[inline]
     fn can_have(self, len: u32) -> bool
         ensures { result ≡ is_length_of self len }
@@ -194,7 +194,7 @@ fn lengths_agree(order: ByteOrder, block: &[u8]) -> bool
     read_u32(order, &block[block.len() - 4..]) as usize == block.len()
 }
 
-/// What is wrong with a whole section header.
+/// The fault of a whole section header.
 pub fn check_section(order: ByteOrder, block: &[u8]) -> Result<(), HeaderFault>
     requires { 28 ≤ length block.now }
     ensures { result ≡ unless (section_fault order block.now) }
@@ -211,7 +211,7 @@ pub fn check_section(order: ByteOrder, block: &[u8]) -> Result<(), HeaderFault>
     Ok(())
 }
 
-/// What the first bytes of a recording are, at least [`START_LEN`].
+/// The first bytes of a recording, at least [`START_LEN`].
 #[derive(Clone, Copy)]
 pub enum FirstSection {
     /// They don't hold the section header: so many bytes are needed.
@@ -248,7 +248,7 @@ pub fn first_section(bytes: &[u8]) -> FirstSection
     }
 }
 
-/// What is wrong with the options from a place on, up to a whole block's last length, or with that.
+/// The fault of the options from a place on, up to a whole block's last length, or of that.
 #[inline]
 fn check_end(order: ByteOrder, block: &[u8], from: usize) -> Result<(), BadReason>
     requires within { from + 4 ≤ length block.now }
@@ -266,7 +266,7 @@ fn check_end(order: ByteOrder, block: &[u8], from: usize) -> Result<(), BadReaso
     Ok(())
 }
 
-/// What is wrong with the options and the last length of a whole interface description.
+/// The fault of the options and the last length of a whole interface description.
 pub fn check_interface_end(order: ByteOrder, block: &[u8]) -> Result<(), BadReason>
     requires { 20 ≤ length block.now }
     ensures { result ≡ unless (interface_fault order block.now) }
@@ -305,7 +305,7 @@ impl PacketFields {
         }
     }
 
-    /// What is wrong with a whole packet from its captured bytes on.
+    /// The fault of a whole packet from its captured bytes on.
     #[inline]
     pub fn check_end(&self, order: ByteOrder, block: &[u8]) -> Result<(), BadReason>
         requires { 32 ≤ length block.now }

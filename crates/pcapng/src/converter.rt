@@ -43,7 +43,7 @@ pub enum Reached {
     Ended(Told),
 }
 
-/// What a step came to.
+/// The outcome of a step.
 #[derive(Clone, Copy)]
 pub enum Step {
     /// It went on.
@@ -52,7 +52,7 @@ pub enum Step {
     Needs(usize),
 }
 
-/// What was read ahead of a recording, and what is given for it.
+/// The converter of a recording: its bytes that were read ahead, and those that are given for them.
 #[derive(Drop)]
 pub struct Converter {
     stage: Reached,
@@ -64,7 +64,7 @@ pub struct Converter {
     /// Where the unread ones start, and where they end.
     start: usize,
     end: usize,
-    /// What is given next: part of a header, and then bytes of the block, before the unread ones.
+    /// The bytes that are given next: part of a header, and then bytes of the block, before the unread ones.
     header: [u8; FILE_HEADER_LEN],
     header_from: usize,
     header_to: usize,
@@ -256,7 +256,7 @@ impl Converter {
         self.end_with(Told::NoHeader(fault));
     }
 
-    /// What is told of the recording, at its end.
+    /// The word on the recording, at its end.
     pub fn told(&self) -> Told
         ensures { result ≡ told_at self.now.stage }
     {

@@ -107,7 +107,7 @@ impl Resolution {
     }
 }
 
-/// What is added to an interface's timestamps, in seconds.
+/// The seconds that are added to an interface's timestamps.
 #[derive(Clone, Copy, Debug, PartialEq, Eq)]
 pub enum Offset {
     Later(u64),
@@ -212,7 +212,7 @@ impl Interface {
         })
     }
 
-    /// Whether it has this name.
+    /// True if it has this name.
     pub fn is_named(&self, name: &InterfaceName) -> bool
         ensures { result ≡ has_name (name_bytes name.now) (bytes_of_name self.now.name) }
     {

@@ -42,7 +42,7 @@ fn options_len(comment: Option<Comment<'_>>) -> usize
     }
 }
 
-/// What stands before the packet's bytes in a block of this total length.
+/// The head of a block of this total length, before the packet's bytes.
 #[inline(always)]
 fn packet_head(interface: u32, frame: &LentFrame<'_>, keep: u32, total: u32) -> [u8; HEAD_LEN]
     ensures { result ≡ packet_head interface frame.now keep total }

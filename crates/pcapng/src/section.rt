@@ -11,7 +11,7 @@ use std::alloc::{AllocError, Global};
 /// How many interfaces of a section are read at most.
 pub const MAX_INTERFACES: usize = 256;
 
-/// What is done with a whole packet.
+/// The use that is made of a whole packet.
 #[derive(Clone, Copy, PartialEq, Eq)]
 pub enum Role {
     /// It is given.
@@ -34,7 +34,7 @@ pub struct Met {
 impl Met {
     ghost use Rattle.pcapng.specs.Section.{is_same, remembered_of};
 
-    /// Whether the interface of this number of a later section is the same: by the names, or, where one of
+    /// True if the interface of this number of a later section is the same: by the names, or, where one of
     /// the two has none, by the numbers.
     pub fn is_same(&self, number: u32, interface: &Interface) -> bool
         ensures { result ≡ is_same (remembered_of self.now) number
@@ -94,7 +94,7 @@ impl Section {
         self.interfaces.as_slice()
     }
 
-    /// Whether the chosen interface was described.
+    /// True if the chosen interface was described.
     pub fn is_described(&self) -> bool
         ensures { result ≡ self.now.described }
     {
@@ -130,7 +130,7 @@ impl Section {
         self.named = None;
     }
 
-    /// Whether the described interface is the chosen one.
+    /// True if the described interface is the chosen one.
     fn is_chosen(&self, interface: &Interface) -> bool
         ensures { result ≡ is_chosen self.now.choice self.now.named (described_of interface.now) }
     {
@@ -188,7 +188,7 @@ impl Section {
         self.interfaces.push(interface).unwrap();
     }
 
-    /// Whether the interface of this number is the only one so far of which packets were given.
+    /// True if the interface of this number is the only one so far of which packets were given.
     #[inline]
     fn is_only(&self, number: u32, interface: &Interface) -> bool
         ensures { taken_if result ≡ role_among Any self.now.taken (known_of self.now).before number
@@ -201,7 +201,7 @@ impl Section {
         }
     }
 
-    /// What is done with a packet of the interface of this number.
+    /// The use that is made of a packet of the interface of this number.
     #[inline]
     pub fn role(&self, number: u32) -> Result<Role, BadReason>
         ensures value { result ≡ role_of (known_of self.now) number }

@@ -13,7 +13,7 @@ use vl_config::Link;
 
 /// The account of one virtual link on one network: what the link may still send.
 ///
-/// What it holds is counted in bytes times BAG in nanoseconds, so that no credit is rounded: each
+/// Its content is counted in bytes times BAG in nanoseconds, so that no credit is rounded: each
 /// nanosecond credits Smax, up to `Smax * (BAG + jitter)`, and a frame costs its size times BAG.
 #[derive(Drop)]
 pub struct Account {
@@ -90,7 +90,7 @@ impl Account {
         }
     }
 
-    /// What the account holds at a moment, with the credit since the frame before.
+    /// The content of the account at a moment, with the credit since the frame before.
     fn content_at(&self, stamp: Stamp) -> u128
         requires { ForSome self.now.last (λ last. last ≤ stamp.0) }
         ensures value { result ≡ content_at self.now stamp.0 }

@@ -3,7 +3,7 @@
 ghost use Rattle.std.specs.Prelude.{◌≡◌, ◌↔◌};
 ghost use Rattle.policing.specs.Word.{policing_word};
 
-/// What policing says of a frame.
+/// The verdict of policing on a frame.
 #[derive(Clone, Copy, Debug, PartialEq, Eq)]
 pub enum Policing {
     /// The frame fits what the account holds, and is charged.

@@ -15,7 +15,7 @@ use pcap_io::{
 };
 use std::alloc::Global;
 
-/// What was drawn last of the file that is read.
+/// The bytes that were drawn last of the file that is read.
 #[inline]
 pub fn drawn<F: TapSource>(input: &Option<BlockSource<F>>) -> &[u8]
     ensures { result.now ≡ drawn_of input.now }
@@ -64,7 +64,7 @@ pub fn draw<F: TapSource>(
     }
 }
 
-/// What the file that is read tells at its end.
+/// The word at its end of the file that is read.
 fn told_by<F: TapSource>(input: &Option<BlockSource<F>>) -> Told
     ensures { IsOver F.is_over input.now
         → Tells (left_of F.remaining input.now) result (tells_of F.told input.now) }

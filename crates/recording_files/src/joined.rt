@@ -34,11 +34,11 @@ pub struct JoinedSource<P, F> {
     /// How many files were opened.
     opened: u64,
     stage: FilesStage,
-    /// What is given next.
+    /// The bytes that are given next.
     pending: Pending,
 }
 
-/// What is told of a file that has no header.
+/// The word on a file that has no header.
 fn no_header(place: WhichFile, fault: HeaderFault) -> Told
     ensures { result ≡ no_header place fault }
 {
@@ -317,7 +317,7 @@ impl<F: TapSource + Drop, P: FileSupply<F>> JoinedSource<P, F> {
         }
     }
 
-    /// Whether what comes next may have to wait for a device.
+    /// True if what comes next may have to wait for a device.
     #[inline]
     fn waits(&self) -> bool {
         let needed = match self.stage {
@@ -341,7 +341,7 @@ impl<F: TapSource + Drop, P: FileSupply<F>> JoinedSource<P, F> {
         matches!(self.stage, FilesStage::Ended(_))
     }
 
-    /// What a read that meets a fault comes to: after some bytes it comes again at the next call.
+    /// The outcome of a read that meets a fault: after some bytes it comes again at the next call.
     fn fault_after(&mut self, done: usize) -> Result<usize, DeviceFault>
         ensures done { IfOk result (λ n. (n ≡ done) × (0 < done)) }
         ensures none { OnErr result (done ≡ 0) }

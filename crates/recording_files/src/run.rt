@@ -41,7 +41,7 @@ impl Run {
     }
 }
 
-/// Whether a packet of this layout may be given as it stands: the layout has the byte order of what is
+/// True if a packet of this layout may be given as it stands: the layout has the byte order of what is
 /// given, and counts nanoseconds.
 #[inline(always)]
 pub fn is_given_layout(layout: Layout) -> bool

@@ -21,7 +21,7 @@ pub struct Packet {
     ghost bounded: { header.captured_len ≤ MAX_SNAPLEN },
 }
 
-/// What of the files comes next.
+/// The stages of the files, by what comes next.
 #[derive(Clone, Copy)]
 pub enum FilesStage {
     /// A file.

@@ -4,7 +4,7 @@ ghost use Rattle.std.specs.Prelude.{◌≡◌, ◌↔◌};
 ghost use Rattle.redundancy.specs.Deliveries.{is_delivered};
 ghost use Rattle.redundancy.specs.Word.{redundancy_word};
 
-/// What redundancy management says of a frame. `Deliver` and `Both` are delivered.
+/// The verdict of redundancy management on a frame. `Deliver` and `Both` are delivered.
 #[derive(Clone, Copy, Debug, PartialEq, Eq)]
 pub enum Redundancy {
     /// The frame is delivered.

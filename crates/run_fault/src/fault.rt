@@ -40,7 +40,7 @@ pub enum WatchFault {
     /// A thread couldn't be started.
     #[error("a thread couldn't be started")]
     Spawn,
-    /// What was taken of a tap's ring isn't what its thread read.
+    /// The items taken of a tap's ring aren't those that its thread read.
     #[error("the items of a ring were lost")]
     RingLost,
     /// The system is out of memory.
@@ -76,7 +76,7 @@ pub const CAPTURE_FAILED: WatchFault = WatchFault::Write {
     output: Output::Capture,
 };
 
-/// What it means that a network's recording wasn't opened.
+/// The fault of a run whose network's recording wasn't opened.
 pub fn fault_of_open(network: Network, fault: OpenFault) -> WatchFault
     ensures { result ≡ open_fault network fault }
 {

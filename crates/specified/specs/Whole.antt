@@ -8,10 +8,10 @@ use Rattle.run_fault.specs.Device.{Devices, SinkView, SourceView}
 use Rattle.run_fault.specs.declared.fault.WatchFault.{WatchFault}
 use Rattle.command_line.specs.declared.fault.Fault.{Fault}
 use Rattle.command_line.specs.declared.fault.Fault.TheVariants as fault
-use Rattle.analyser.specs.Inputs.{IsFilter, IsFilterFault}
-use Rattle.analyser.specs.OneCapture.{IsAbortedBy, IsCapturedBy}
-use Rattle.analyser.specs.Sessions.{IsSessionRun}
-use Rattle.analyser.specs.WholeTap.{IsTap, IsTapRefusal}
+use Rattle.run_inputs.specs.Inputs.{IsFilter, IsFilterFault}
+use Rattle.capture_run.specs.OneCapture.{IsAbortedBy, IsCapturedBy}
+use Rattle.filter_run.specs.Sessions.{IsSessionRun}
+use Rattle.filter_run.specs.WholeTap.{IsTap, IsTapRefusal}
 
 -- ---- a capture in a pcap file, of a recording without a window
 

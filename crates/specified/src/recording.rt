@@ -7,7 +7,7 @@ ghost use Rattle.specified.specs.Recording.{IsNextFrame};
 
 use afdx_frame::{Network, TapFrame};
 
-/// Whether the frames are a recording of the network's tap: numbered from 0, and with no timestamp further
+/// True if the frames are a recording of the network's tap: numbered from 0, and with no timestamp further
 /// than `late` nanoseconds below the greatest one before it.
 pub fn is_recording(network: Network, late: u64, frames: &[TapFrame]) -> bool
     ensures { IsTrue result ↔ IsRecording network late frames.now }
@@ -24,14 +24,14 @@ pub fn is_recording(network: Network, late: u64, frames: &[TapFrame]) -> bool
     true
 }
 
-/// Whether the frame comes next of the network, after frames of this greatest timestamp.
+/// True if the frame comes next of the network, after frames of this greatest timestamp.
 fn is_next(network: Network, late: u64, next: u64, high: Option<u64>, frame: &TapFrame) -> bool
     ensures { IsTrue result ↔ IsNextFrame network late next high frame.now }
 {
     frame.network() == network && frame.number() == next && is_in_time(late, high, frame.stamp().0)
 }
 
-/// Whether a timestamp is no further than `late` below the greatest one before it.
+/// True if a timestamp is no further than `late` below the greatest one before it.
 fn is_in_time(late: u64, high: Option<u64>, stamp: u64) -> bool
     ensures { IsTrue result ↔ ForSome high (λ high. high ≤ stamp + late) }
 {

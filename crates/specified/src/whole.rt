@@ -2,20 +2,19 @@
 //! devices of its own, and calls what they call.
 ghost use Rattle.std.specs.Prelude.{◌≡◌, ℕ, List, None, Option, Result, IfErr, IfOk, IfSome, IsSome, option_map, string_bytes};
 ghost use Rattle.command_line.specs.declared.fault.Fault.{Fault};
-ghost use Rattle.analyser.specs.Asm.{IsAsmRun};
+ghost use Rattle.filter_run.specs.Asm.{IsAsmRun};
 ghost use Rattle.pcap_io.specs.declared.recording.Ending.{Ending};
 ghost use Rattle.run_fault.specs.Device.{devices_of, sink_at, source_at};
 ghost use Rattle.specified.specs.Whole.{IsAborted, IsCaptured, IsCaptureRun, IsDebugRun, IsRan, IsTextRan, debug_devices};
 
-use analyser::{
-    CaptureRun, HeldTap, TapRead, capture_by, capture_within, filter_of, read_tap, run_asm,
-    run_session,
-};
 use bpf_loader::Program;
+use capture_run::{CaptureRun, capture_by, capture_within};
 use command_line::{Fault, fault_line};
+use filter_run::{HeldTap, TapRead, read_tap, run_asm, run_session};
 use packet_format::PacketFormat;
 use pcap_io::{Ending, OutSink, TapSource};
 use run_fault::WatchRefused;
+use run_inputs::filter_of;
 use std::alloc::Global;
 
 /// Copies the frames of a recording that the filter accepts, each cut to the filter's return value, into a
@@ -46,7 +45,7 @@ pub fn capture_one<S: TapSource, W: OutSink>(
     capture_within(alloc, program, 0, PacketFormat::Pcap, source, sink)
 }
 
-/// What a command leaves: the program's exit status, the line for standard error, without its
+/// The end of a command: the program's exit status, the line for standard error, without its
 /// newline, and the sink. There is no line at status 0, and a line may be missing after a fault: it
 /// takes memory.
 #[derive(Drop)]
@@ -56,7 +55,7 @@ pub struct Ran<W> {
     pub sink: W,
 }
 
-/// What a command leaves that has printed a text, or why it didn't.
+/// The end of a command that has printed a text, or met a fault.
 fn text_ran<W>(alloc: Global, outcome: Result<(), Fault>, sink: W) -> Ran<W>
     ensures ran { IsTextRan outcome result.status (option_map string_bytes result.line) }
     ensures sink { result.sink ≡ sink }
@@ -131,7 +130,7 @@ pub fn asm_over<S: TapSource + Drop, W: OutSink>(alloc: Global, source: S, sink:
 /// A session that has ended, with the devices that it was given.
 #[derive(Drop)]
 pub struct DebugRun<S, C, W> {
-    /// Whether all commands were answered, or why they weren't.
+    /// True if all commands were answered, or why they weren't.
     pub outcome: Result<(), Fault>,
     /// Where the recording was read from.
     pub tap: S,

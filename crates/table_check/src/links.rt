@@ -25,7 +25,7 @@ pub fn tell_links(
     Ok(())
 }
 
-/// What no two links may share, where a link has it.
+/// The values that no two links may share, where a link has them.
 #[derive(Clone, Copy, Debug)]
 pub struct Own<'a> {
     id: Option<u64>,
@@ -33,7 +33,7 @@ pub struct Own<'a> {
 }
 
 impl<'a> Own<'a> {
-    /// What a link has for itself.
+    /// The values that a link has for itself.
     fn of(value: &'a Value) -> Own<'a> {
         let mut own = Own {
             id: None,
@@ -61,7 +61,7 @@ impl<'a> Own<'a> {
     }
 }
 
-/// What each of the links has for itself.
+/// The values that each of the links has for itself.
 pub fn owns_of(alloc: Global, values: &[Value]) -> Result<Vec<Own<'_>>, AllocError> {
     let mut owns = Vec::new(alloc);
     for value in values {

@@ -5,7 +5,7 @@ use std::alloc::Global;
 use toml_parser::text::{byte_at, first, skip_blank, skip_ws};
 use toml_parser::{Key, dotted_key, quoted, starts_string};
 
-/// What a walk meets at the top level of a document.
+/// The things that a walk meets at the top level of a document.
 #[derive(Drop)]
 enum Entry {
     /// The header of the next link, `[[link]]`.

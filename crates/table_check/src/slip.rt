@@ -7,14 +7,14 @@ use std::fmt::{Display, Formatter};
 use toml::{Table, Value};
 use vl_config::{ConfigFault, FaultyKey, Key, MAX_LINKS, MAX_TABLE_FILTERS, faulty_key};
 
-/// What a person is told of a fault of a table.
+/// A fault of a table, told to a person.
 #[derive(Drop)]
 pub struct Slip {
     /// The byte offset of the key, or of the link's header where the key is missing. None: it isn't found.
     pub at: Option<usize>,
-    /// What stands there.
+    /// The text that stands there.
     pub found: String,
-    /// What is allowed there.
+    /// The values that are allowed there.
     pub allowed: String,
 }
 
@@ -147,7 +147,7 @@ fn is_same(one: &Value, other: &Value) -> bool {
     }
 }
 
-/// What stands at the key that a fault is about.
+/// The text that stands at the key that a fault is about.
 fn found_at(alloc: Global, subject: Subject<'_>, key: FaultyKey<'_>) -> Result<String, AllocError> {
     let key = match key {
         FaultyKey::Unknown(name) => return format!(in alloc; "{subject}unknown key {name}"),
@@ -179,7 +179,7 @@ fn known_keys(link: Option<u32>) -> &'static str {
     }
 }
 
-/// What is allowed at the key that a fault is about.
+/// The values that are allowed at the key that a fault is about.
 fn allowed_at(
     alloc: Global,
     document: &Table,
@@ -215,7 +215,7 @@ fn slip_of_key(alloc: Global, text: &str, document: &Table, fault: ConfigFault) 
     slip_at(alloc, text, document, fault, key)
 }
 
-/// What a person is told of the fault of one key, in a table's text and the document that it is. None: there
+/// The words for the fault of one key, in a table's text and the document that it is. None: there
 /// is no memory for it, or the document has no such link.
 pub fn slip_at(
     alloc: Global,
@@ -278,7 +278,7 @@ fn slip_of_text(alloc: Global, error: toml::de::Error) -> Option<Slip> {
     })
 }
 
-/// What a person is told of the first fault of a table's text. None: there is no memory for it, or nothing
+/// The words for the first fault of a table's text. None: there is no memory for them, or nothing
 /// more is known of the fault than its line says.
 pub fn slip_of(alloc: Global, text: &str, fault: ConfigFault) -> Option<Slip> {
     let document = match toml::table_from_str(alloc, text) {

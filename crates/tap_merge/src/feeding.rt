@@ -7,7 +7,7 @@ use std::snapshot::Snapshot;
 use std::thread::Promise;
 use tap_queue::{Fed, TapPut};
 
-/// What is promised of a tap: this reader is read into the ring that has this end.
+/// The promise of a tap: this reader is read into the ring that has this end.
 #[derive(Drop)]
 pub struct Feeding<S> {
     pub reader: Snapshot<TapReader<S>>,

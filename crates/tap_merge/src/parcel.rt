@@ -13,15 +13,15 @@ use std::sync::Wait;
 use std::thread::yield_now;
 use tap_queue::TapPut;
 
-/// What goes through the ring: what is promised, and then the reader and the end of the ring that it is read
-/// into.
+/// The things that go through the ring: the promise, and then the reader and the end of the ring that it is
+/// read into.
 #[derive(Drop)]
 pub enum Parcel<S> {
     Promised(Feeding<S>),
     Delivered(TapReader<S>, TapPut),
 }
 
-/// What is delivered is what was promised first.
+/// The ring's protocol: the promise that came first is kept.
 #[derive(Clone, Copy)]
 pub struct AsPromised;
 

@@ -53,7 +53,7 @@ fn merge_item<R: Wait>(
     }
 }
 
-/// Whether a round's frames are there, after some were merged, or will be with as many more as came last.
+/// True if a round's frames are there, after some were merged, or will be with as many more as came last.
 fn is_enough(most: usize, before: usize, last: usize, pending: usize) -> bool {
     let merged = pending.saturating_sub(before);
     merged.saturating_add(pending.saturating_sub(last)) > most
@@ -77,7 +77,7 @@ impl Rings {
     ghost use Rattle.tap_queue.specs.Ring.{SameEnd};
     ghost use Rattle.tap_merge.specs.Rings.{HasTaken, RingsFault, StopsTaking};
 
-    /// Whether the next item can be taken without waiting for it. No clause says so.
+    /// True if the next item can be taken without waiting for it. No clause says so.
     fn is_ready(&mut self) -> bool
         ensures a { SameEnd self.old.a self.new.a }
         ensures b { SameEnd self.old.b self.new.b }
@@ -92,7 +92,7 @@ impl Rings {
         }
     }
 
-    /// Whether [`next_round`](Rings::next_round) has nothing to wait for, after some milliseconds at the
+    /// True if [`next_round`](Rings::next_round) has nothing to wait for, after some milliseconds at the
     /// longest in which an item may come. No clause says so.
     pub fn is_soon_ready<R: Wait>(&mut self, rt: &R) -> bool
         ensures a { SameEnd self.old.a self.new.a }

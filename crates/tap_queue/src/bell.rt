@@ -74,7 +74,7 @@ impl Bells {
         self.putter.wake();
     }
 
-    /// Whether nothing more is wanted.
+    /// True if nothing more is wanted.
     #[inline]
     pub(crate) fn is_stopped(&self) -> bool {
         self.stopped.load(Ordering::SeqCst)

@@ -26,7 +26,7 @@ const SPINS: u32 = 64;
 pub struct TapEnd {
     next: NextFrame,
     consumer: Consumer<Batch>,
-    /// What is left of the batch that came last.
+    /// The rest of the batch that came last.
     rest: Option<FrameBatch>,
     alloc: Global,
     bells: Arc<Bells, Global>,
@@ -81,7 +81,7 @@ fn pop<R: Wait>(rt: &R, consumer: &mut Consumer<Batch>, bells: &Bells) -> Option
     unreachable!()
 }
 
-/// What is left of a batch, or else the oldest batch of the ring. None: the ring is empty, and was left.
+/// The rest of a batch, or else the oldest batch of the ring. None: the ring is empty, and was left.
 #[inline]
 fn next_batch<R: Wait>(
     rt: &R,
@@ -186,7 +186,7 @@ impl TapEnd {
         }
     }
 
-    /// Whether an item may follow those that were taken.
+    /// True if an item may follow those that were taken.
     #[inline]
     fn is_going(&self) -> bool
         ensures { IsTrue result
@@ -195,7 +195,7 @@ impl TapEnd {
         !self.lost && !self.over
     }
 
-    /// Whether the next call of [`take`](TapEnd::take) has nothing to wait for. No clause says so.
+    /// True if the next call of [`take`](TapEnd::take) has nothing to wait for. No clause says so.
     pub fn is_ready(&mut self) -> bool
         ensures { Looks self.old self.new }
     {

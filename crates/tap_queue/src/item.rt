@@ -7,7 +7,7 @@ use frame_batch::FrameBatch;
 use pcap_io::{Batched, Ending, ReadFault};
 use thiserror::Error;
 
-/// What a reader gave.
+/// One thing that a reader gave.
 #[derive(Drop)]
 pub enum TapItem {
     /// The next frame.
@@ -18,7 +18,7 @@ pub enum TapItem {
     Failed(ReadFault),
 }
 
-/// What a reader gave together.
+/// Things that a reader gave together.
 #[derive(Drop)]
 pub enum TapBatch {
     /// The next frames, one after another.
@@ -32,7 +32,7 @@ pub enum TapBatch {
 impl TapBatch {
     ghost use Rattle.tap_queue.specs.Items.{batch_from};
 
-    /// What a call of a reader gave.
+    /// The batch of a reader's call.
     pub(crate) fn of(read: Result<Batched, ReadFault>) -> TapBatch
         ensures { result ≡ batch_from read }
     {
@@ -43,7 +43,7 @@ impl TapBatch {
         }
     }
 
-    /// Whether nothing follows it.
+    /// True if nothing follows it.
     pub fn is_last(&self) -> bool
         ensures { result ≡ is_over (items_of self.now) }
     {
@@ -54,15 +54,15 @@ impl TapBatch {
     }
 }
 
-/// What goes through a ring at once, at least one item.
+/// The things that go through a ring at once, at least one.
 #[derive(Drop)]
 pub(crate) struct Batch {
     pub(crate) content: TapBatch,
     ghost some: { 0 < length (items_of content) },
 }
 
-/// What was taken of a ring can't be shown to be what a reader put into it: the ring was left without an
-/// ending, its ending or a fault was taken before, an item isn't the recording's next, or not all was taken.
+/// The items taken of a ring can't be shown to be those that a reader put into it: the ring was left without
+/// an ending, its ending or a fault was taken before, an item isn't the recording's next, or some are left.
 #[derive(Clone, Copy, Debug, PartialEq, Eq, Error)]
 #[error("the items of a ring were lost")]
 pub struct RingLost;

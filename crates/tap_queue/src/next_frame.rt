@@ -6,7 +6,7 @@ ghost use Rattle.tap_queue.specs.Items.{AreNextFrames, Follows};
 use afdx_frame::{LentFrame, Network};
 use frame_batch::FrameBatch;
 
-/// What is required of a network's next frame.
+/// The requirements on a network's next frame.
 #[derive(Clone, Copy)]
 pub(crate) struct NextFrame {
     pub(crate) network: Network,

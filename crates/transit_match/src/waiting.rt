@@ -87,7 +87,7 @@ impl<K: PartialEq + Drop> Waiting<K> {
             && entry.key == *key)
     }
 
-    /// Whether a frame of this key went in no more than the window before, even if it has come out.
+    /// True if a frame of this key went in no more than the window before, even if it has come out.
     pub fn knows(&self, key: &K, moment: u64) -> bool
         ensures { (floor : ℕ) (rows : List (Row K)) (arrivals : List (Arrival K)) →
             Stands K.eq self.now floor rows arrivals → floor ≤ moment →
@@ -97,7 +97,7 @@ impl<K: PartialEq + Drop> Waiting<K> {
         self.keeps(key, moment)
     }
 
-    /// Whether a frame that is kept fits, even one that is taken.
+    /// True if a frame that is kept fits, even one that is taken.
     fn keeps(&self, key: &K, moment: u64) -> bool
         ensures { result ≡ list_any (fits K.eq self.now.window (record { moment = moment; key = key.now }))
             self.now.queue.items }
@@ -106,7 +106,7 @@ impl<K: PartialEq + Drop> Waiting<K> {
         self.queue.iter().any(|entry| is_within(window, entry.moment, moment) && entry.key == *key)
     }
 
-    /// Whether a frame of this key went in no more than the window before and hasn't come out yet.
+    /// True if a frame of this key went in no more than the window before and hasn't come out yet.
     pub fn has(&self, key: &K, moment: u64) -> bool
         ensures { (floor : ℕ) (rows : List (Row K)) (arrivals : List (Arrival K)) →
             Stands K.eq self.now floor rows arrivals → floor ≤ moment →
@@ -116,7 +116,7 @@ impl<K: PartialEq + Drop> Waiting<K> {
         self.keeps_free(key, moment)
     }
 
-    /// Whether a frame that is kept and isn't taken fits.
+    /// True if a frame that is kept and isn't taken fits.
     fn keeps_free(&self, key: &K, moment: u64) -> bool
         ensures { result ≡ list_any
             (may_take K.eq self.now.window (record { moment = moment; key = key.now })) self.now.queue.items }
@@ -140,7 +140,7 @@ impl<K: PartialEq + Drop> Waiting<K> {
         }
     }
 
-    /// Whether the window of the first frame ended before this moment.
+    /// True if the window of the first frame ended before this moment.
     fn starts_over(&self, moment: u64) -> bool
         ensures { result ≡ starts_over self.now.window moment self.now.queue.items }
     {
@@ -151,7 +151,7 @@ impl<K: PartialEq + Drop> Waiting<K> {
     }
 }
 
-/// Whether the moment of coming out is in the window of that of going in.
+/// True if the moment of coming out is in the window of that of going in.
 fn is_within(window: u64, in_moment: u64, out_moment: u64) -> bool
     ensures { result ≡ is_within window in_moment out_moment }
 {

@@ -3,7 +3,7 @@
 ghost use Rattle.std.specs.Prelude.{◌≡◌, ℕ, ◌≤◌, ◌<◌, ◌+◌, ◌-◌, ◌^◌, ◌*◌, [], List, Option, Some, None, min, IsTrue, ◌↔◌, ◌≢◌};
 ghost use Rattle.std.specs.Option.{ForSome};
 
-/// What policing says of a frame that went in.
+/// The verdict of policing on a frame that went in.
 #[derive(Clone, Copy, Debug, PartialEq, Eq)]
 pub enum Policed {
     /// A switch lets it through, wherever in the bounds its account is.
@@ -16,7 +16,7 @@ pub enum Policed {
 
 /// The account of a link at a switch, as far as what came out tells it.
 ///
-/// What it holds is counted in bytes times BAG in nanoseconds: each nanosecond credits Smax, and a frame
+/// Its content is counted in bytes times BAG in nanoseconds: each nanosecond credits Smax, and a frame
 /// that came out was charged its price, its size times BAG.
 #[derive(Drop)]
 pub struct Observed {
@@ -25,7 +25,7 @@ pub struct Observed {
     slack: u64,
     /// When the bounds below were, in nanoseconds: at the last charge, or at the link's first frame.
     since: u64,
-    /// What the account held then, at least.
+    /// The least that the account held then.
     low: u128,
     /// By how much it was below the most that it holds and what the grace credits, at least. None: nothing
     /// is known.

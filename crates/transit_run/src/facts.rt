@@ -53,7 +53,7 @@ impl Span {
     }
 }
 
-/// Whether a recording covers the time from so much before a moment to so much after it.
+/// True if a recording covers the time from so much before a moment to so much after it.
 pub(crate) fn covers(span: Option<Span>, moment: u64, before: u64, after: u64) -> bool {
     match span {
         Some(span) => {
@@ -63,7 +63,7 @@ pub(crate) fn covers(span: Option<Span>, moment: u64, before: u64, after: u64) -
     }
 }
 
-/// Whether the moment, if there is one, is no later than the other.
+/// True if the moment, if there is one, is no later than the other.
 pub(crate) fn is_by(moment: Option<u64>, other: u64) -> bool {
     match moment {
         Some(moment) => moment <= other,

@@ -26,7 +26,7 @@ impl Options {
         self.within.saturating_add(self.early)
     }
 
-    /// Whether the link is known to be routed elsewhere.
+    /// True if the link is known to be routed elsewhere.
     pub fn is_routed_elsewhere(&self, link: VlId) -> bool {
         match &self.routed {
             Some(routed) => !routed.iter().any(|one| *one == link),

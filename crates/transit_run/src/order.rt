@@ -1,6 +1,6 @@
 //! Whether frames of a link keep their order.
 
-/// What is known of the frames of a link that came out.
+/// The order of the frames of a link that came out.
 #[derive(Clone, Copy, Debug)]
 pub(crate) struct Order {
     /// When the last of them came out.

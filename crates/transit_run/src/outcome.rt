@@ -9,7 +9,7 @@ pub(crate) const FATES: usize = 11;
 /// How many there are of frames that came out without a partner.
 pub(crate) const ORIGINS: usize = 5;
 
-/// What became of a frame that went in.
+/// The fates of a frame that went in.
 #[derive(Clone, Copy, Debug, PartialEq, Eq)]
 pub enum Fate {
     /// The recording holds a part of the frame, which says too little.
@@ -36,7 +36,7 @@ pub enum Fate {
     Dropped,
 }
 
-/// What a frame is that came out and is no pair with one that went in.
+/// The origins of a frame that came out and is no pair with one that went in.
 #[derive(Clone, Copy, Debug, PartialEq, Eq)]
 pub enum Origin {
     /// The recording holds a part of the frame, which says too little.
@@ -62,7 +62,7 @@ pub enum Pair {
     Changed,
 }
 
-/// What is known of a frame that went in, once its window is over.
+/// The knowledge of a frame that went in, once its window is over.
 #[derive(Clone, Copy, Debug)]
 pub struct Passage {
     /// Are some of its bytes not recorded?
@@ -85,7 +85,7 @@ pub struct Passage {
     pub is_unrouted: bool,
 }
 
-/// What became of a frame that went in: the first that fits.
+/// The fate of a frame that went in: the first that fits.
 pub fn fate_of(passage: Passage) -> Fate
     ensures { result ≡ fate_of passage }
 {
@@ -129,7 +129,7 @@ fn fate_of_missing(passage: Passage) -> Fate
     }
 }
 
-/// What a frame without a partner is that came out: the first that fits.
+/// The origin of a frame without a partner that came out: the first that fits.
 pub fn origin_of(is_cut: bool, is_twice: bool, is_covered: bool, is_elsewhere: bool) -> Origin
     ensures { result ≡ origin_of is_cut is_twice is_covered is_elsewhere }
 {

@@ -28,7 +28,7 @@ pub struct Pass<'t> {
     lanes: Vec<Lane>,
     /// The place of each identifier's lane.
     index: Vec<u16>,
-    /// What is known of each identifier.
+    /// The facts of each identifier.
     facts: Vec<LinkFacts>,
     befores: VecDeque<GoneIn>,
     /// How many frames that went in have been written.
@@ -45,7 +45,7 @@ pub struct Pass<'t> {
     text: String,
 }
 
-/// Whether so much time, and more, is past since the moment. None: all of it is.
+/// True if so much time, and more, is past since the moment. None: all of it is.
 fn is_past(now: Option<u64>, moment: u64, time: u64) -> bool {
     match now {
         Some(now) => now.saturating_sub(moment) > time,
@@ -62,7 +62,7 @@ fn transit_of(went_in: u64, came_out: u64) -> i64 {
     }
 }
 
-/// Whether the switch discards each frame of the class.
+/// True if the switch discards each frame of the class.
 fn is_discarded(class: Class) -> bool {
     !matches!(class, Class::Regular | Class::Cut)
 }
@@ -432,7 +432,7 @@ impl<'t> Pass<'t> {
         }
     }
 
-    /// Whether a frame without a partner can be judged: the other recording reaches the end of its window,
+    /// True if a frame without a partner can be judged: the other recording reaches the end of its window,
     /// or no frame follows.
     fn is_certain(&self, now: Option<u64>, moment: u64, span: Option<Span>, end: u64) -> bool {
         is_past(now, moment, self.options.window().saturating_mul(2))
@@ -576,7 +576,7 @@ fn link_of(head: &Head) -> Option<VlId> {
     }
 }
 
-/// Whether a transit is longer than the bound, if there is one.
+/// True if a transit is longer than the bound, if there is one.
 fn is_over(transit: Option<i64>, bound: Option<u64>) -> bool {
     match (transit, bound) {
         (Some(transit), Some(bound)) => transit > 0 && transit.unsigned_abs() > bound,

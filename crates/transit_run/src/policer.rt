@@ -9,7 +9,7 @@ use policing::{Account, Policing};
 use transit_policing::{Observed, Policed};
 use vl_config::Link;
 
-/// What policing keeps of a link. Without a grace it is an account that begins full, as `watch` keeps
+/// The policing of a link. Without a grace it is an account that begins full, as `watch` keeps
 /// one; with a grace it is what came out that tells what the switch's account may hold.
 #[derive(Drop)]
 pub(crate) struct Policer {

@@ -4,7 +4,7 @@ use crate::outcome::Pair;
 use afdx_frame::VlId;
 use vl_config::Class;
 
-/// What a line says of a frame before what became of it.
+/// The head of a line: a frame before its outcome.
 #[derive(Clone, Copy, Debug)]
 pub(crate) struct Head {
     /// When it went in; or when it came out, later by what clocks may be off. In nanoseconds.

@@ -43,7 +43,7 @@ impl From<AllocError> for LedgerFault {
 /// A ledger that wasn't begun, or not finished: its sink, and why.
 #[derive(Drop)]
 pub struct LedgerRefused<W> {
-    /// What the ledger writes to.
+    /// The sink that the ledger writes to.
     pub sink: W,
     /// Why.
     pub fault: LedgerFault,

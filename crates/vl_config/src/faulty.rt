@@ -9,7 +9,7 @@ use crate::key::{Key, LINK_KEYS, TOP_KEYS};
 use crate::tables::{is_missing, is_other_kind, is_out_of_range, is_unknown};
 use toml::Table;
 
-/// What a fault of a table is about: one of its keys, or a name that is none of them.
+/// The subject of a fault of a table: one of its keys, or a name that is none of them.
 #[derive(Clone, Copy)]
 pub enum FaultyKey<'a> {
     Known(Key),
@@ -51,7 +51,7 @@ fn first_unknown<'a>(keys: &[Key], table: &'a Table) -> Option<&'a str>
     None
 }
 
-/// What a fault is about, in the table that it names: that of the link, or of the network. None: it is about
+/// The subject of a fault in the table that it names: that of the link, or of the network. None: it is about
 /// no single key, or the table has no such fault.
 pub fn faulty_key<'a>(fault: ConfigFault, table: &'a Table) -> Option<FaultyKey<'a>> {
     let key = match fault {

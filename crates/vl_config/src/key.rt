@@ -62,7 +62,7 @@ impl Key {
         }
     }
 
-    /// What the key's value may be, in words.
+    /// The values that the key may have, in words.
     pub fn allowed(self) -> &'static str {
         match self {
             Key::Constant => "constant is an integer, 0 to 4294967295, with bits 24 and 25 set",

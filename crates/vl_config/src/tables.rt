@@ -54,14 +54,14 @@ fn is_any_out_of_range(keys: &[Key], table: &Table) -> bool
     keys.iter().any(|key| is_out_of_range(table, *key))
 }
 
-/// Whether the table lacks a key that it must have.
+/// True if the table lacks a key that it must have.
 pub fn is_missing(table: &Table, key: Key) -> bool
     ensures { result ≡ is_missing (table_view table.now) key }
 {
     key.is_required() && value_at(table, key).is_none()
 }
 
-/// Whether the key has a value of another kind than its own in the table.
+/// True if the key has a value of another kind than its own in the table.
 pub fn is_other_kind(table: &Table, key: Key) -> bool
     ensures { result ≡ is_other_kind (table_view table.now) key }
 {
@@ -71,7 +71,7 @@ pub fn is_other_kind(table: &Table, key: Key) -> bool
     }
 }
 
-/// Whether the key has a value out of its range in the table.
+/// True if the key has a value out of its range in the table.
 pub fn is_out_of_range(table: &Table, key: Key) -> bool
     ensures { result ≡ is_out_of_range (table_view table.now) key }
 {
@@ -95,7 +95,7 @@ fn is_any_unknown(keys: &[Key], table: &Table) -> bool
     table.keys().any(|name| is_unknown(keys, name.as_str()))
 }
 
-/// Whether the name is that of none of these keys.
+/// True if the name is that of none of these keys.
 pub fn is_unknown(keys: &[Key], name: &str) -> bool
     ensures { result ≡ is_unknown keys.now name.now }
 {

@@ -21,7 +21,7 @@ use std::alloc::{AllocError, Global};
 use std::marker::Model;
 use vl_config::{CHECK_LENGTH, Class, Link, class_by};
 
-/// What policing and integrity checking keep of one virtual link on one network.
+/// The state that policing and integrity checking keep of one virtual link on one network.
 #[derive(Drop)]
 pub struct Side {
     account: Account,

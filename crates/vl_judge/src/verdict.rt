@@ -18,11 +18,11 @@ use vl_config::Class;
 pub struct Verdict {
     /// The class.
     pub class: Class,
-    /// What policing says, of a regular frame.
+    /// The verdict of policing, on a regular frame.
     pub policing: Option<Policing>,
-    /// What integrity checking says, of a frame within its account.
+    /// The verdict of integrity checking, on a frame within its account.
     pub integrity: Option<Integrity>,
-    /// What redundancy management says, of a valid frame.
+    /// The verdict of redundancy management, on a valid frame.
     pub redundancy: Option<Redundancy>,
 }
 

@@ -16,7 +16,7 @@ use std::alloc::{AllocError, Global};
 use verdict_ledger::append_lines;
 use vl_judge::Verdict;
 
-/// What is written of frames, in their order.
+/// The text that is written of frames, in their order.
 #[derive(Drop)]
 pub struct Entries {
     /// How many bytes are kept of each frame. None: it is rejected.

@@ -122,7 +122,7 @@ pub const LEDGER_FAILED: WatchFault = WatchFault::Write {
     output: Output::Ledger,
 };
 
-/// What a fault of the ledger is to a run.
+/// The fault of a run for a fault of the ledger.
 fn fault_of_ledger(fault: LedgerFault) -> WatchFault
     ensures { result ≡ ledger_fault fault }
 {
@@ -202,7 +202,7 @@ fn write_flight<'a, R: Wait, W: OutSink, L: OutSink, G: RunGate + Sync>(
     write_entries(capture, ledger, &done.frames, &done.verdicts, entries)
 }
 
-/// What a fault of a pool is to a run. No round of a run has too many chunks.
+/// The fault of a run for a fault of a pool. No round of a run has too many chunks.
 fn fault_of_pool(fault: PoolFault) -> WatchFault
     ensures { (result ≡ WatchFault.Memory) ⊎ (result ≡ WatchFault.RingLost) }
 {

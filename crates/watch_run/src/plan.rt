@@ -5,7 +5,7 @@ ghost use Rattle.watch_run.specs.Filters.{making_of, pcap_of};
 use bpf_loader::Program;
 use packet_format::PacketFormat;
 
-/// What a run makes of its frames.
+/// The outputs that a run makes of its frames.
 #[derive(Clone, Copy)]
 pub struct Plan<'a> {
     /// The filters.

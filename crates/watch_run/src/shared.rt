@@ -23,7 +23,7 @@ pub struct JudgedRound {
     ghost judged: { length verdicts.items ≡ length frames },
 }
 
-/// What is written of a chunk of a round.
+/// The text that is written of a chunk of a round.
 #[derive(Drop)]
 pub struct ChunkEntries {
     pub entries: Entries,
@@ -31,7 +31,7 @@ pub struct ChunkEntries {
     pub complete: bool,
 }
 
-/// What workers do with the chunks of rounds: they run the filters on the frames, and make their packets and
+/// The work on the chunks of rounds: workers run the filters on the frames, and make their packets and
 /// lines. The gate is told of each frame before, as of worker 0, whichever works on it.
 #[derive(Drop)]
 pub struct Formatting<'a, G> {

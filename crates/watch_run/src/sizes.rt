@@ -14,7 +14,7 @@ const BLOCK_LEN: usize = 65_536;
 pub struct RunSizes {
     /// The bytes of a block of a recording, at most 262144. A longer packet still has its room.
     pub block: usize,
-    /// What the ring of a recording holds.
+    /// The size of the ring of a recording.
     pub ring: RingSizes,
     /// The most frames of a round.
     pub round: NonZeroUsize,

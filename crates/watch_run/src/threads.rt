@@ -191,7 +191,7 @@ fn two_rings(alloc: Global, late: u64, sizes: RingSizes) -> Result<TwoRings, All
 }
 
 impl<S, T, W, L> Ready<S, T, W, L> {
-    /// What is ready, by its parts.
+    /// The parts that are ready.
     fn of(ends: TwoRings, taps: Taps<S, T>, outputs: Outputs<W, L>) -> Ready<S, T, W, L>
         ensures { result ≡ ready_of ends.0.0 ends.0.1 ends.1.0 ends.1.1 taps outputs }
     {

@@ -79,7 +79,7 @@ impl<T: Task> Worker<T> {
     ghost use Rattle.worker_pool.specs.declared.fault.PoolFault.TheVariants.{Memory};
     ghost use Rattle.worker_pool.specs.Replies.{asked_share, question};
 
-    /// Whether the worker can be asked once more.
+    /// True if the worker can be asked once more.
     fn has_room(&mut self) -> bool
         ensures { IsTrue result → 0 < known_free self.new.jobs }
     {

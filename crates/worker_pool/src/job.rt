@@ -41,7 +41,7 @@ impl<T: Task> Job<T> {
     }
 }
 
-/// What a worker's thread has for the whole run.
+/// The things that a worker's thread has for the whole run.
 #[derive(Drop)]
 pub struct Station<T: Task> {
     pub(crate) jobs: Consumer<Job<T>>,

@@ -7,7 +7,7 @@ use crate::task::Task;
 use filter_workers::DeskSeat;
 use std::snapshot::Snapshot;
 
-/// What was asked: to claim chunks of this round with this seat. It is put by the thread that asks, and
+/// A question: to claim chunks of this round with this seat. It is put by the thread that asks, and
 /// taken out again at once, so that both ends of the ring know it, and the end that answers may go to
 /// any thread.
 #[derive(Drop)]
@@ -16,7 +16,7 @@ pub struct Ask<T: Task> {
     pub(crate) seat: Snapshot<DeskSeat>,
 }
 
-/// What goes through a reply ring: what was asked, and then the worker's share.
+/// The things that go through a reply ring: the question, and then the worker's share.
 #[derive(Drop)]
 pub enum Reply<T: Task> {
     Asked(Ask<T>),

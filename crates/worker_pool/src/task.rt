@@ -1,12 +1,12 @@
 //! What a pool is started for.
 ghost use Rattle.std.specs.Prelude.{◌≡◌, ◌<◌, ◌≤◌, ℕ};
 
-/// What is done with a chunk of a round.
+/// The work on a chunk of a round.
 pub trait Task: Send + Sync + Drop {
     /// A round of items. The workers share it, and only read it.
     type Round: Send + Sync + Drop;
 
-    /// What a chunk gives. Its memory is used again.
+    /// The result of a chunk. Its memory is used again.
     type Batch: Send + Drop;
 
     /// How many items a round has.

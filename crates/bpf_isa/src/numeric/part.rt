@@ -33,7 +33,7 @@ fn is_separator(byte: u8) -> bool
     matches!(byte, b',' | b'\n')
 }
 
-/// Whether the numeric form has the byte.
+/// True if the numeric form has the byte.
 pub(super) fn is_allowed(byte: u8) -> bool
     ensures { result ≡ is_allowed byte }
 {

@@ -14,16 +14,16 @@ pub fn file_in(end: &TapEnd, exit: &Exit, network: Network) -> usize {
     }
 }
 
-/// What a person is told where hardly a frame is a copy.
+/// The hint where hardly a frame is a copy.
 const FEW_COPIES: &str =
     "afdxmon: hint: hardly a frame is a copy of another: do the clocks of the taps drift? \
      afdxmon check tells";
 
-/// What a person is told where both recordings may be one.
+/// The hint where both recordings may be one.
 const ONE_RECORDING: &str =
     "afdxmon: hint: each frame has its copy: are --a and --b two names of one recording?";
 
-/// What is likely wrong with both recordings, where the counts alone give no hint: fewer frames than one in
+/// The likely fault of both recordings, where the counts alone give no hint: fewer frames than one in
 /// sixteen of the shorter recording are copies, or each that is delivered has one, and both begin alike.
 fn hint_at_both(rt: &HostRuntime, summary: &Summary, taps: &Taps) -> Option<&'static str> {
     let totals = &summary.totals;

@@ -5,7 +5,7 @@ use pcapng::Interfaces;
 use tap_inputs::{Blocks, Cause, Outcome, OutputStream, SharedBlocks};
 use vl_config::Config;
 
-/// What hands an output its bytes in blocks. Are they to be hashed?
+/// The writer that hands an output its bytes in blocks. Are they to be hashed?
 pub fn blocks_of(rt: &HostRuntime, output: OutputStream, hashed: bool) -> Result<Blocks, Outcome> {
     Ok(Blocks::new(rt.alloc(), output, hashed)?)
 }

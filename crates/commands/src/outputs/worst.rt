@@ -77,7 +77,7 @@ fn worst_of<'c>(
     Ok(worst)
 }
 
-/// What a person is told of the links with the most discards, by the counts of a run. None: no link has any,
+/// The words on the links with the most discards, by the counts of a run. None: no link has any,
 /// or there is no memory.
 pub fn worst_links(alloc: Global, config: &Config, tally: &Tally) -> Option<String> {
     let worst = worst_of(alloc, config, tally).ok()?;

@@ -6,9 +6,9 @@
 
 use crate::ending::{ends, is_one_of};
 use crate::support::{FIRST_RUN, ONE_LINK, SOUND, WIDE};
-use analyser::{Fault, fault_line};
 use bpf_isa::{NumericFault, Packed, read_numeric, write_numeric};
 use bpf_loader::LoadFault;
+use command_line::{Fault, fault_line};
 use pcap_io::{MemSink, MemSource, OutSink, Script};
 use specified::{Ran, capture_over};
 use std::process::Abort;

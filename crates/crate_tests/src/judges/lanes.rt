@@ -11,7 +11,7 @@ use std::test::Fail;
 use vl_config::{Class, Config};
 use vl_judge::{Lanes, Verdict};
 
-/// What is said of a frame that has gone through all judgements, or is stopped before one.
+/// The verdict on a frame that has gone through all judgements, or is stopped before one.
 type Said = (
     Class,
     Option<Policing>,

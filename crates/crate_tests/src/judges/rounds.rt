@@ -86,7 +86,7 @@ pub(super) fn two_links(alloc: Global) -> Option<Round> {
     round_of(alloc, &FRAMES)
 }
 
-/// What integrity checking and redundancy management say of that round's frames.
+/// The verdicts of integrity checking and redundancy management on that round's frames.
 const SAID: [(Integrity, Option<Redundancy>); 4] = [
     (Integrity::First, Some(Redundancy::Deliver)),
     (Integrity::Off, Some(Redundancy::Both)),

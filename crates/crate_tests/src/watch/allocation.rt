@@ -41,7 +41,7 @@ fn two_taps_run<R: Threads + Wait + Sync + AllocGlobal>(rt: &R, way: Way) -> Opt
     Some(run_over(rt, way, &config, &programs, devices, &OpenGate))
 }
 
-/// What is left of a run that was refused memory: a prefix of each output, and all devices.
+/// The remains of a run that was refused memory: a prefix of each output, and all devices.
 fn has_prefixes(rt: &impl Abort, ran: &Ran, capture: &[u8], fault: WatchFault) {
     assert!(rt; capture.starts_with(ran.capture.taken()));
     assert!(rt; TWO_TAPS.as_bytes().starts_with(ran.ledger.taken()));

@@ -30,7 +30,7 @@ pub struct Answered {
     pub answer: u32,
 }
 
-/// What workers do to each frame.
+/// The work of workers on each frame.
 pub trait Work {
     /// The answer, as a function of the frame.
     ghost answer_of: { Self → Frame → ℕ };

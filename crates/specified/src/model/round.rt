@@ -10,7 +10,7 @@ use frame_batch::Round as Frames;
 use std::alloc::{AllocError, Global};
 use std::marker::Model;
 
-/// What a worker does.
+/// The state of a worker.
 #[derive(Clone, Copy)]
 pub(crate) enum Worker {
     Idle,
@@ -79,7 +79,7 @@ impl Round {
         true
     }
 
-    /// Whether each frame has its answer.
+    /// True if each frame has its answer.
     pub(crate) fn is_answered(&self) -> bool
         ensures { result ≡ is_answered self.now }
     {

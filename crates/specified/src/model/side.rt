@@ -8,7 +8,7 @@ use std::alloc::{AllocError, Global};
 use std::collections::VecDeque;
 use std::marker::Model;
 
-/// What a tap puts onto its ring.
+/// The things that a tap puts onto its ring.
 #[derive(Drop)]
 pub(crate) enum RingItem {
     Frame(TapFrame),

@@ -1,9 +1,0 @@
-pub mod Accepted
-pub mod Answering
-pub mod Copying
-pub mod Loading
-pub mod SessionRuns
-pub mod SourceRuns
-pub mod Stopping
-pub mod TapReading
-pub mod WholeCapture

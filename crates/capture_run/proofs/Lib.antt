@@ -1,0 +1,4 @@
+pub mod Accepted
+pub mod Copying
+pub mod Stopping
+pub mod WholeCapture

@@ -1,0 +1,4 @@
+pub mod Capture
+pub mod CaptureLaws
+pub mod Copy
+pub mod OneCapture

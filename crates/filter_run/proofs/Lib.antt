@@ -1,0 +1,4 @@
+pub mod Answering
+pub mod SessionRuns
+pub mod SourceRuns
+pub mod TapReading

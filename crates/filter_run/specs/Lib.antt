@@ -1,0 +1,4 @@
+pub mod Asm
+pub mod Laws
+pub mod Sessions
+pub mod WholeTap
