@@ -27,12 +27,13 @@ _afdxmon() {
     case ${COMP_WORDS[1]} in
         capture | asm | watch | debug | cut | links | report | check)
             case ${COMP_WORDS[1]}:$previous in
+                report:--fail-on) _afdxmon_words 'trouble notice' "$current"; return ;;
                 capture:--late-us | debug:--late-us) _afdxmon_words 'any' "$current"; return ;;
-                cut:--network) _afdxmon_words 'A B' "$current"; return ;;
+                cut:--network | report:--network) _afdxmon_words 'A B' "$current"; return ;;
                 cut:--verdict) _afdxmon_words 'discarded faults delivered cut runt oversize foreign unconfigured toolong regular excess within first next skip reset off out deliver copy both' "$current"; return ;;
                 watch:--workers) _afdxmon_words '1 2 3 4 5 6 7 8' "$current"; return ;;
-                *:--around | *:--code | *:--constant | *:--filters | *:--from | *:--late-us | *:--link | *:--span | *:--to) return ;;
-                *:--digest | *:--help | *:--json | *:--ledger-only | *:--pcapng | *:--quiet | *:--verbose | *:--whole) ;;
+                *:--around | *:--code | *:--column | *:--constant | *:--filters | *:--from | *:--late-us | *:--link | *:--span | *:--title | *:--to) return ;;
+                *:--digest | *:--help | *:--json | *:--ledger-only | *:--pcapng | *:--quiet | *:--strict | *:--verbose | *:--whole) ;;
                 *:-o | *:--*) _afdxmon_files "$current"; return ;;
             esac
             ;;
@@ -40,11 +41,11 @@ _afdxmon() {
     case ${COMP_WORDS[1]}:$current in
         capture:-*) _afdxmon_words '--code --filter --source -o --output --pcapng --late-us -v --verbose -h --help' "$current" ;;
         asm:-*) _afdxmon_words '-v --verbose -h --help' "$current" ;;
-        watch:-*) _afdxmon_words '--config --filter --a --b --capture --ledger --manifest --digest --workers --late-us --quiet --pcapng -v --verbose -h --help' "$current" ;;
+        watch:-*) _afdxmon_words '--config --filter --a --b --capture --ledger --manifest --digest --workers --late-us --quiet --strict --pcapng -v --verbose -h --help' "$current" ;;
         debug:-*) _afdxmon_words '--filter --source --tap --late-us -v --verbose -h --help' "$current" ;;
         cut:-*) _afdxmon_words '--ledger --a --b --config --link --network --verdict --from --to --span --filters --around --ledger-only --pcapng -o --output -v --verbose -h --help' "$current" ;;
-        links:-*) _afdxmon_words '--a --b --constant --icd -v --verbose -h --help' "$current" ;;
-        report:-*) _afdxmon_words '--config --ledger --manifest --baseline --json -o --output -v --verbose -h --help' "$current" ;;
+        links:-*) _afdxmon_words '--a --b --constant --icd --column -v --verbose -h --help' "$current" ;;
+        report:-*) _afdxmon_words '--config --ledger --manifest --baseline --baseline-config --from --to --link --network --json --csv --title --fail-on -o --output -v --verbose -h --help' "$current" ;;
         check:-*) _afdxmon_words '--config --filter --a --b --whole --json -v --verbose -h --help' "$current" ;;
         help:*) _afdxmon_words 'capture asm watch debug cut links report check help' "$current" ;;
         capture:*) _afdxmon_files "$current" ;;

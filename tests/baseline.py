@@ -47,8 +47,46 @@ def numbers_of(said, length):
     least = [lane["least"] for lane in lanes if lane["least"] is not None]
     skew = max(said["skew_greatest"], said["late_greatest"])
     return {"frames": frames, "rate": rounded(Fraction(frames * 10**12, length)) if length else None, "copies": said["copies"],
-            "least": min(least, default=None), "skew": skew if said["copies"] or skew else None, "counts": counts,
+            "least": min(least, default=None), "skew": skew if said["copies"] or skew else None,
+            "skew_median": said["skew_median"] if said["copies"] else None, "counts": counts,
             "shares": {word: rounded(Fraction(count * 10**6, frames)) for word, count in counts.items()}}
+
+
+def has_grown(word, now, then):
+    """Did a count grow by 3 at least, and to more than twice as many by frame?"""
+    return now["counts"][word] - then["counts"][word] >= 3 \
+        and Fraction(now["counts"][word], now["frames"]) > 2 * Fraction(then["counts"][word], then["frames"])
+
+
+def changed_of(today, before):
+    """In what a link is otherwise: its rate by more than a quarter, its median skew by 10 us and twofold, a count in either direction."""
+    if not today or not before:
+        return []
+    changed = []
+    if None not in (today["rate"], before["rate"]) and abs(today["rate"] - before["rate"]) > before["rate"] // 4:
+        changed.append("rate")
+    if None not in (today["skew_median"], before["skew_median"]):
+        apart, lesser = abs(today["skew_median"] - before["skew_median"]), min(today["skew_median"], before["skew_median"])
+        changed += ["skew"] if apart >= 10_000 and apart > lesser else []
+    return changed + [word for word in COUNTS if has_grown(word, today, before) or has_grown(word, before, today)]
+
+
+def is_among(finding, others):
+    """Has a flight a finding of this kind and networks, about one of its links?"""
+    links = set(finding["links"])
+    return any(other["kind"] == finding["kind"] and other["networks"] == finding["networks"]
+               and (links & set(other["links"]) or not links and not other["links"]) for other in others)
+
+
+def findings_of(today, before):
+    """What is found in one of two flights alone, and how many findings of each kind they have."""
+    def only(own, others):
+        return [one for one in own if not re.match(r"and \d+ more: ", one["text"]) and not is_among(one, others)]
+
+    kinds = list(dict.fromkeys(one["kind"] for one in [*today, *before]))
+    return {"new": only(today, before), "gone": only(before, today),
+            "kinds": [{"kind": kind, "today": sum(one["kind"] == kind for one in today), "baseline": sum(one["kind"] == kind for one in before)}
+                      for kind in kinds]}
 
 
 def worse_of(today, before, redundancy):
@@ -59,8 +97,7 @@ def worse_of(today, before, redundancy):
     if not today:
         return ["silent"]
     lost = ["lost_copies"] if redundancy and not today["copies"] and before["copies"] else []
-    return lost + [word for word in COUNTS if today["counts"][word] - before["counts"][word] >= 3
-                   and Fraction(today["counts"][word], today["frames"]) > 2 * Fraction(before["counts"][word], before["frames"])]
+    return lost + [word for word in COUNTS if has_grown(word, today, before)]
 
 
 def compared(links, today, before):
@@ -69,9 +106,11 @@ def compared(links, today, before):
     rows = []
     for link, now, then in zip(sorted(links, key=lambda one: one["id"]), today["links"], before["links"]):
         now, then = numbers_of(now, of["today"]), numbers_of(then, of["before"])
-        rows.append({"id": link["id"], "name": link["name"], "worse": worse_of(now, then, link["redundancy"]), "today": now, "baseline": then})
+        rows.append({"id": link["id"], "name": link["name"], "worse": worse_of(now, then, link["redundancy"]), "changed": changed_of(now, then),
+                     "today": now, "baseline": then})
     known = {link["id"] for link in before["outside"]}
     return {"whole": before["whole"], "start": before["start"], "end": before["end"], "counts": before["counts"], "links": rows,
+            "table": {"added": [], "removed": [], "renamed": [], "changed": []}, "findings": findings_of(today["findings"], before["findings"]),
             "new_outside": [link["id"] for link in today["outside"] if link["id"] not in known]}
 
 
@@ -156,6 +195,8 @@ class Flights:
         heads = [html.unescape(head).rstrip(":") for head in re.findall(r"<li>.*?<b>(.*?)</b>", found)]
         words = [word for word in SENTENCES if any(word in worse for worse in self.worse.values())]
         wanted = [SENTENCES[word] for word in words]
+        calm = [row["changed"] for row in self.reference["links"] if not row["worse"]]
+        wanted += [f"Another {word} than in the baseline" for word in ("rate", "skew") if any(word in changed for changed in calm)]
         if self.reference["new_outside"]:
             wanted.append("New since the baseline, outside the table")
         if heads[: len(wanted)] != wanted or any("baseline" in head for head in heads[len(wanted) :]):
@@ -165,9 +206,13 @@ class Flights:
         if sorted(int(row[0]) for row in rows) != sorted(row["id"] for row in self.reference["links"])[: len(rows)] and len(rows) < 64:
             return f"rows {[row[0] for row in rows]}"
         by_id = {row["id"]: row for row in self.reference["links"]}
-        first = [by_id[int(row[0])]["worse"] != [] for row in rows]
-        if first != sorted(first, reverse=True):
+        first = [(by_id[int(row[0])]["worse"] != [], by_id[int(row[0])]["changed"] != []) for row in rows]
+        order = [(worse, worse or changed) for worse, changed in first]
+        if order != sorted(order, reverse=True):
             return "a link that got worse stands after one that didn't"
+        new = found.count('<i class="new">new</i>')
+        if new != len(self.reference["findings"]["new"]) or page.count(">gone: <b>") != min(len(self.reference["findings"]["gone"]), 24):
+            return f"{new} findings are new"
         for number, name, worse, cells in rows:
             fault = row_fault(by_id[int(number)], name, worse, cells)
             if fault:
@@ -205,6 +250,13 @@ class Flights:
         if at is None or mine[at] != wanted[0]:
             return f"{mine[:4]} have no line {wanted[0]!r}"
         own = [line for line in mine if line.startswith("worse ")]
+        calm = [row for row in self.reference["links"] if row["changed"] and not row["worse"]]
+        told_of = [line.split()[1] for line in mine if line.startswith("changed ")]
+        if f"links otherwise than in the baseline: {len(calm)}" not in mine or set(told_of) > {str(row["id"]) for row in calm}:
+            return f"{told_of} are otherwise, not {[row['id'] for row in calm]}"
+        counts = [len(self.reference["findings"][which]) for which in ("new", "gone")]
+        if f"findings new since the baseline: {counts[0]}, gone: {counts[1]}" not in mine:
+            return f"{counts} are new and gone"
         if mine[at + 1 : at + 1 + len(own)] != own or not set(own) <= set(lines) or len(own) != min(len(lines), 14):
             return f"{own} in place of {lines}"
         more = f"and {len(lines) - 14} more links got worse"
@@ -225,8 +277,10 @@ def hundredths(number):
 
 def row_fault(row, name, worse, cells):
     """A row of the page against a link's comparison."""
-    if (name, worse.split()) != (row["name"], row["worse"]):
-        return f"{name} {worse} in place of {row['name']} {row['worse']}"
+    words, _, others = worse.partition("<i>")
+    calm = [word for word in row["changed"] if word not in row["worse"]]
+    if (name, words.split(), others.removesuffix("</i>").split()) != (row["name"], row["worse"], calm):
+        return f"{name} {worse} in place of {row['name']} {row['worse']} {calm}"
     wanted = []
     for numbers in (row["today"], row["baseline"]):
         if numbers is None:
@@ -315,6 +369,60 @@ def empty(folder):
     judged(folder, "90 links that are new", links, flight(links, 3), flight(links, 3, absent=range(110, 190)), None)
 
 
+def other_rates(folder):
+    """A rate that is halved, one that is a quarter less, skews tenfold and by a little, and a count that fell: none got worse."""
+    def taps(rows):
+        made = {"A": [], "B": []}
+        for place, (number, (period, skew, too_long)) in enumerate(rows.items()):
+            for i in range(1200 // period):
+                size = 140 if i % 3 == 1 and i // 3 < too_long else 80
+                made["A"].append((i * period * MS + place * 7000, frame(number, size, i % 255 + 1)))
+                made["B"].append((i * period * MS + place * 7000 + skew, frame(number, 80, i % 255 + 1)))
+        return {n: sorted(made[n], key=lambda one: one[0]) for n in "AB"}
+
+    links = [link(n) for n in range(60, 66)]
+    before = {60: (4, 3000, 0), 61: (5, 3000, 0), 62: (4, 3000, 0), 63: (4, 3000, 0), 64: (4, 3000, 8), 65: (4, 3000, 0)}
+    today = {60: (8, 3000, 0), 61: (6, 3000, 0), 62: (4, 30_000, 0), 63: (4, 9000, 0), 64: (4, 3000, 2), 65: (4, 3000, 0)}
+    flights = judged(folder, "other rates and skews", links, taps(today), taps(before), {})
+    told = {row["id"]: row["changed"] for row in flights.reference["links"]}
+    say("baseline: other rates and skews: what is told", "" if told == {60: ["rate"], 61: [], 62: ["skew"], 63: [], 64: ["toolong"], 65: []} else f"{told}")
+
+
+def revisions(folder):
+    """The baseline has another table: a link is added, one removed, one renamed, one changed, and the rest is compared by identifier."""
+    olds = [link(70), link(71), link(72), link(73)]
+    news = [link(70), link(71, name="other"), link(72, bag_ms=2, skew_us=2000), link(74)]
+    paths = {}
+    for name, links, more in (("old", olds, {}), ("new", news, {"too_long": {70: 9}})):
+        own = os.path.join(folder, name)
+        os.makedirs(own, exist_ok=True)
+        paths[name] = ledger_in(own, table_of(links), flight(links, 200, **more))[:2]
+    command = ["report", "--config", paths["new"][0], "--ledger", paths["new"][1], "--baseline", paths["old"][1]]
+    whole = [*command, "--baseline-config", paths["old"][0]]
+    ran = run([*whole, "--json"], stdout=subprocess.PIPE)
+    told = json.loads(ran.stdout)["baseline"] if ran.returncode == SUCCESS else {}
+    wanted = {"added": [{"id": 74, "name": "link_74", "before": None, "keys": []}], "removed": [{"id": 73, "name": None, "before": "link_73", "keys": []}],
+              "renamed": [{"id": 71, "name": "other", "before": "link_71", "keys": []}],
+              "changed": [{"id": 72, "name": "link_72", "before": "link_72", "keys": ["bag_ms", "skew_us"]}]}
+    say("baseline: of another table: what differs", "" if told.get("table") == wanted else f"{ran.stderr!r} {told.get('table')}")
+    worse = {one["id"]: one["worse"] for one in told.get("links", [])}
+    say("baseline: of another table: links by identifier", "" if worse == {70: ["toolong"], 71: [], 72: [], 74: ["new"]} else f"{worse}")
+    new = [(one["kind"], one["links"]) for one in told["findings"]["new"]]
+    say("baseline: of another table: the finding that is new", "" if ("toolong", [70]) in new else f"{new}")
+    page = run(whole, stdout=subprocess.PIPE).stdout.decode("ascii")
+    lines = ["Links of the table added: 74 link_74<", "Links of the table removed: 73 link_73<", "Links of the table renamed: 71 other<",
+             "Links of the table changed: 72 link_72<"]
+    say("baseline: of another table: page", "" if all(line in page for line in lines) else "a line is missing")
+    ran = run([*command, "--json"], stdout=subprocess.PIPE)
+    say("baseline: of another table that isn't given", "" if ran.returncode == FAULT and ran.stderr.startswith(b"afdxmon: report 6 Baseline 2 Contradiction")
+        else f"{ran.returncode} {ran.stderr!r}")
+    wrong = os.path.join(folder, "wrong.toml")
+    with open(wrong, "w", encoding="ascii") as out:
+        out.write("constant = 1\n")
+    ran = run([*command, "--baseline-config", wrong], stdout=subprocess.PIPE)
+    say("baseline: a table of it that isn't one", "" if (ran.returncode, ran.stderr) == (FAULT, b"afdxmon: file --baseline-config\n") else f"{ran.stderr!r}")
+
+
 def faults(folder):
     """A baseline that isn't one, and files that are one."""
     links = [link(50)]
@@ -374,6 +482,8 @@ def cases():
         each_way(folder)
         lengths(folder)
         empty(folder)
+        other_rates(folder)
+        revisions(folder)
         faults(folder)
 
 

@@ -308,6 +308,10 @@ def copies_within(frames, skew):
     return count
 
 
+# What frames of other traffic carry, by EtherType.
+KINDS = {0: "without an EtherType", 0x0800: "IPv4", 0x0806: "ARP", 0x8100: "802.1Q", 0x86DD: "IPv6", 0x88CC: "LLDP", 0x88F7: "PTP"}
+
+
 def nearly_all(count, of):
     return of > 0 and of - count <= of // 10
 
@@ -318,6 +322,7 @@ class Reference:
     def __init__(self, links, a, b, constant, readable):
         self.taps, self.links, self.constant, self.readable = {"A": a, "B": b}, links, constant, readable
         self.foreign, self.long, self.unlisted, self.by_link = {}, 0, {}, {link["id"]: [] for link in links}
+        self.kinds, self.listed = {}, {"A": [], "B": []}
         frames = sorted((stamp, network, k) for network, tap in self.taps.items() for k, (stamp, _, _) in enumerate(tap))
         for stamp, network, k in frames:
             self.see(network, *self.taps[network][k])
@@ -329,12 +334,16 @@ class Reference:
         constant, link = int.from_bytes(data[:4], "big"), int.from_bytes(data[4:6], "big")
         if constant != self.constant:
             self.foreign[constant] = self.foreign.get(constant, 0) + 1
+            kind = int.from_bytes(data[12:14], "big")
+            kind = kind if kind >= 0x600 else 0
+            self.kinds[kind] = self.kinds.get(kind, 0) + 1
         elif link not in self.by_link:
             self.unlisted[link] = self.unlisted.get(link, 0) + 1
         else:
             smax = next(one["smax"] for one in self.links if one["id"] == link)
             self.long += length + 4 > smax
             self.by_link[link].append((network, stamp, data[-1]))
+            self.listed[network].append((stamp, link, data[11] >> 5))
 
     def of(self, link, network):
         return [(stamp, number) for on, stamp, number in self.by_link[link] if on == network]
@@ -402,10 +411,32 @@ class Reference:
             out.append(f"is the table's 'constant' that of this network? Not that of {foreign} of {self.all} frames; {self.foreign[constant]} have {constant}")
         checks = [n for n in "AB" if self.has_checks(n)]
         out += [f"does the recording of network {n} hold frame check sequences? editcap -F nsecpcap -L -C -4 in.pcap out.pcap takes them off" for n in checks]
-        if not checks and nearly_all(self.long, self.all):
+        tagged = {n: sum(data[12:14] == b"\x81\0" for _, _, data in self.taps[n]) for n in "AB"}
+        tagged = {n: count for n, count in tagged.items() if nearly_all(count, len(self.taps[n]))}
+        out += [
+            f"do the frames of network {n} have 802.1Q tags? {count} of {len(self.taps[n])} of them have one, as some taps add it. "
+            "editcap -F nsecpcap -L -C 12:4 in.pcap out.pcap takes them off"
+            for n, count in tagged.items()
+        ]
+        if not checks and not tagged and nearly_all(self.long, self.all):
             out.append(f"does 'smax' count a frame without its check sequence? {self.long} of {self.all} frames are longer")
         out += self.classes()
-        return out + (self.clocks() if not checks and not self.same() else [])
+        return out + (self.clocks() if not checks and not self.same() else []) + self.crossings()
+
+    def crossings(self):
+        """Networks where frames of the table's links name the other network, though nearly all name one."""
+        wired = self.same() or any(self.marked("A", one) and self.marked("B", other) for one in "AB" for other in "AB" if (one, other) != ("A", "B"))
+        out = []
+        for network, other in ("AB", "BA"):
+            listed = self.listed[network]
+            others = [(stamp, link) for stamp, link, mark in listed if mark == {"A": 1, "B": 2}[other]]
+            if wired or not others or not nearly_all(sum(mark in (1, 2) for _, _, mark in listed), len(listed)):
+                continue
+            links = sorted({link for _, link in others})
+            text = f"were cables of network {network} swapped? {len(others)} of {len(listed)} frames there have source addresses of network {other}, of link {links[0]}"
+            text += f" and {len(links) - 1} more" if len(links) > 1 else ""
+            out.append(f"{text}, from {moment(min(others)[0])} to {moment(max(others)[0])}")
+        return out
 
     def classes(self):
         unlisted, out = sum(self.unlisted.values()), []
@@ -441,6 +472,10 @@ class Reference:
         for what, names in ((f"no frame is of {counted(len(absent), 'link')} of the table", absent), (f"the table lacks {counted(len(unlisted), 'link')}", unlisted)):
             if names:
                 text += f"note: {what}: " + ", ".join(names[:20]) + (f" and {len(names) - 20} more" if len(names) > 20 else "") + "\n"
+        if self.kinds:
+            kinds = [f"{count} {KINDS[kind]}" if kind in KINDS else f"{count} of EtherType 0x{kind:04x}" for kind, count in self.kinds.items()]
+            more = sum(list(self.kinds.values())[8:])
+            text += f"note: foreign traffic, {counted(sum(self.kinds.values()), 'frame')}: {', '.join(kinds[:8])}" + (f" and {more} more" if more else "") + "\n"
         return text
 
 
@@ -574,9 +609,149 @@ def pairs():
         yield f"{cut} of {frames} frames that aren't whole", links, file_of(a), header() + held
 
 
+def marked_as(data, mark):
+    """A frame with another last byte of its source address."""
+    return data[:11] + bytes([mark]) + data[12:]
+
+
+def tagged(frames, untagged=0):
+    """Frames with an 802.1Q tag behind their addresses, but for the first ones."""
+    return [(stamp, data if k < untagged else data[:12] + b"\x81\0\0\x07" + data[12:]) for k, (stamp, data) in enumerate(frames)]
+
+
+def other(stamp, ethertype, size=60):
+    """A frame of other traffic."""
+    return stamp, b"\x01\x1b\x19\0\0\0" + bytes(5) + b"\x40" + struct.pack(">H", ethertype) + bytes(size - 14)
+
+
+def taps_and_cables():
+    """What taps, cables and other devices do: links, A and B, by name."""
+    chance = random.Random(36)
+    links = links_of(chance, 6)
+    a, b = sent(chance, links, 50)
+    yield "802.1Q tags", links, file_of(tagged(a)), file_of(tagged(b))
+    yield "802.1Q tags on network B", links, file_of(a), file_of(tagged(b))
+    full = [{**link, "smax": 64} for link in links]
+    short = [[(stamp, data[:59] + data[-1:]) for stamp, data in tap] for tap in (a, b)]
+    yield "802.1Q tags on frames of Smax", full, *(file_of(tagged(tap)) for tap in short)
+    for untagged in (30, 31):
+        yield f"802.1Q tags, which {untagged} of 300 frames of A lack", links, file_of(tagged(a, untagged)), file_of(b)
+    whole = sent(chance, links, 30, check=True)[1]
+    yield "check sequences on network B alone", links, file_of(a), file_of(whole)
+    least = min(link["id"] for link in links)
+    for name, swapped in (("one link", {least}), ("three links", set(sorted(link["id"] for link in links)[1:4]))):
+        taps = [[(stamp, marked_as(data, data[11] ^ 0x60) if int.from_bytes(data[4:6], "big") in swapped else data) for stamp, data in tap] for tap in (a, b)]
+        yield f"cables of {name} swapped", links, *(file_of(tap) for tap in taps)
+    late = a[len(a) // 2][0]
+    taps = [[(stamp, marked_as(data, data[11] ^ 0x60) if stamp >= late else data) for stamp, data in tap] for tap in (a, b)]
+    yield "cables swapped from a moment on", links, *(file_of(tap) for tap in taps)
+    taps = [[(stamp, marked_as(data, data[11] ^ 0x60) if k == 7 else data) for k, (stamp, data) in enumerate(tap)] for tap in (a, b)]
+    yield "one frame of each network from the other", links, *(file_of(tap) for tap in taps)
+    yield "one frame of A from the other network, and none of B", links, file_of(taps[0]), file_of(b)
+    for unnamed in (30, 31):
+        tap = [(stamp, marked_as(data, 0x40 if k == 299 else 0 if k < unnamed else 0x20)) for k, (stamp, data) in enumerate(a)]
+        yield f"a frame from the other network, and {unnamed} of 300 that name none", links, file_of(tap), file_of(b)
+    none = [[(stamp, marked_as(data, 0)) for stamp, data in tap] for tap in (a, b)]
+    yield "source addresses that name no network", links, *(file_of(tap) for tap in none)
+    unlisted = [link for link in links if link["id"] != least]
+    taps = [[(stamp, marked_as(data, data[11] ^ 0x60) if int.from_bytes(data[4:6], "big") == least else data) for stamp, data in tap] for tap in (a, b)]
+    yield "cables swapped of a link that the table lacks", unlisted, *(file_of(tap) for tap in taps)
+    kinds = (0x88F7, 0x0806, 0x88F7, 0x88CC, 0x0800, 0x86DD, 0x8100, 0x05FF, 0, 0x0600)
+    traffic = [other(START + k, kind) for k, kind in enumerate(kinds)]
+    yield "other traffic of eight kinds on A", links, file_of(sorted(a + traffic)), file_of(b)
+    traffic += [other(START + 50 + k, 0x9000 + k % 2) for k in range(5)]
+    yield "other traffic of ten kinds on B", links, file_of(a), file_of(sorted(b + traffic))
+    yield "one frame of other traffic", links, file_of(sorted(a + traffic[:1])), file_of(b)
+
+
+def of_holes(work):
+    """Zeros and noise within a file: what ends the recording isn't a time."""
+    links = [{"id": 5, "name": "brake", "bag_ms": 1, "jitter_us": 0, "smax": 200, "integrity": False, "redundancy": False, "skew_us": 0}]
+    config, path = write(os.path.join(work, "t.toml"), toml_of(links)), os.path.join(work, "a.pcap")
+    frames = [record(START + k * MS, frame(5, 60, k + 1)) for k in range(40)]
+    hole = "by more than a day: zeros or noise stand in the file there (a bad sector, a hole), or a clock was reset"
+    for name, there, why in (
+        ("512 zeros", bytes(512), f"timestamp out of order {hole}"),
+        ("16 zeros", bytes(16), f"timestamp out of order {hole}"),
+        ("ones", b"\xff" * 512, "captured length over 262144 bytes"),
+    ):
+        write(path, header() + b"".join(frames[:20]) + there + b"".join(frames[20:]))
+        ran = asked("--config", config, "--a", path)
+        wanted = f"fault: of network A no frame is read after 20 frames: {why}\n"
+        found = "".join(line + "\n" for line in ran.stdout.decode().splitlines() if line.startswith("fault: "))
+        say(f"check: {name} within a file", "" if found == wanted and ran.returncode == FAULT else ran.stdout.decode())
+        ran = run(["watch", "--config", config, "--a", path, "--ledger", os.path.join(work, "l")])
+        note = f"afdxmon: note: recording of network A ends bad after 20 frames: {why}"
+        say(f"check: {name} within a file, watch", difference(ran, SUCCESS, note))
+
+
+def statistics(interface, options, order="<"):
+    """A pcapng block of an interface's statistics."""
+    body = struct.pack(order + "III", interface, 0, 0)
+    for code, value in options:
+        body += struct.pack(order + "HH", code, len(value)) + value + bytes(-len(value) % 4)
+    body += bytes(4)
+    return struct.pack(order + "II", 5, len(body) + 12) + body + struct.pack(order + "I", len(body) + 12)
+
+
+def pcapng(interfaces, frames, order="<"):
+    """A pcapng file of Ethernet interfaces with these names, and of frames (interface, stamp, bytes)."""
+    block = lambda kind, body: struct.pack(order + "II", kind, len(body) + 12) + body + struct.pack(order + "I", len(body) + 12)
+    out = block(0x0A0D0D0A, struct.pack(order + "IHHq", 0x1A2B3C4D, 1, 0, -1))
+    for name in interfaces:
+        text = name.encode()
+        options = struct.pack(order + "HH", 2, len(text)) + text + bytes(-len(text) % 4) + struct.pack(order + "HH", 9, 1) + b"\x09\0\0\0" + bytes(4)
+        out += block(1, struct.pack(order + "HHI", 1, 0, 0) + options)
+    for interface, stamp, data in frames:
+        out += block(6, struct.pack(order + "IIIII", interface, stamp >> 32, stamp & 0xFFFFFFFF, len(data), len(data)) + data + bytes(-len(data) % 4))
+    return out
+
+
+def of_drops(work):
+    """What recorders say at the ends of pcapng files of packets that they dropped."""
+    links = [{"id": 5, "name": "brake", "bag_ms": 1, "jitter_us": 0, "smax": 200, "integrity": False, "redundancy": False, "skew_us": 0}]
+    config, paths = write(os.path.join(work, "t.toml"), toml_of(links)), [os.path.join(work, name) for name in ("a.pcapng", "b.pcapng")]
+    frames = [(0, START + k * MS, frame(5, 60, k + 1)) for k in range(4)]
+    both = frames + [(1, START + k * MS, frame(5, 60, k + 1)) for k in range(4, 8)]
+    for order in "<>":
+        count = lambda number: struct.pack(order + "Q", number)
+        one = pcapng(["eth0"], frames, order)
+        two = pcapng(["eth0", "eth1"], both, order)
+        drops = statistics(0, [(2, count(1)), (4, count(900)), (5, count(400)), (7, count(75))], order)
+        of_second = statistics(1, [(5, count(3))], order)
+        for name, recording, choice, dropped in (
+            ("nothing", one, "", 0),
+            ("no drop", one + statistics(0, [(4, count(9)), (5, count(0))], order), "", 0),
+            ("drops of the interface and of the system", one + drops, "", 475),
+            ("one drop", one + statistics(0, [(5, count(1))], order), "", 1),
+            ("statistics without options", one + statistics(0, [], order), "", 0),
+            ("a count of four bytes", one + statistics(0, [(5, count(7)[:4])], order), "", 0),
+            ("a comment before the count", one + statistics(0, [(1, b"hello"), (5, count(2**40))], order), "", 2**40),
+            ("two blocks", one + drops + statistics(0, [(5, count(1))], order), "", 476),
+            ("a block of 4096 bytes", one + statistics(0, [(1, bytes(4052)), (5, count(6))], order), "", 6),
+            ("a block of 4100 bytes", one + statistics(0, [(1, bytes(4056)), (5, count(6))], order), "", 0),
+            ("the first interface", two + drops + of_second, ":0", 475),
+            ("the second interface", two + drops + of_second, ":1", 3),
+            ("the second interface by its name", two + drops + of_second, ":eth1", 3),
+            ("statistics before packets", pcapng(["eth0"], [], order) + drops + pcapng(["eth0"], frames, order), "", 0),
+            ("a pcap file that ends like statistics", header() + record(START, frame(5, 60, 1)) + record(START + 1, drops.ljust(100, b"\0")[-100:] + drops), "", 0),
+        ):
+            write(paths[0], recording)
+            ran = asked("--config", config, "--a", paths[0] + choice)
+            wanted = f"note: the recorder of network A dropped {counted(dropped, 'packet')}\n" if dropped else ""
+            found = "".join(line + "\n" for line in ran.stdout.decode().splitlines() if " dropped " in line)
+            say(f"check: dropped, {name}, {order}", "" if found == wanted else f"{found!r}, not {wanted!r}; {ran.stdout}")
+            answer = json.loads(asked("--config", config, "--a", paths[0] + choice, "--json").stdout)
+            say(f"check: dropped, {name}, {order}, as JSON", "" if answer["a"]["dropped"] == dropped else str(answer["a"]))
+        write(paths[0], one + drops)
+        write(paths[1], pcapng(["eth0"], [(0, stamp + 10**9, data) for _, stamp, data in frames], order) + statistics(0, [(7, count(25))], order))
+        ran = asked("--config", config, "--a", paths[0], paths[1])
+        say(f"check: dropped, of two files, {order}", "" if b"note: the recorder of network A dropped 500 packets\n" in ran.stdout else str(ran.stdout))
+
+
 def of_recordings(work):
     config, paths = os.path.join(work, "t.toml"), {network: os.path.join(work, f"{network}.pcap") for network in "AB"}
-    for name, links, a, b in pairs():
+    for name, links, a, b in (*pairs(), *taps_and_cables()):
         write(config, toml_of(links))
         given, recordings = ["--config", config], {}
         for network, recording in (("A", a), ("B", b)):
@@ -602,6 +777,8 @@ def of_disorder(work):
         (1001, " by 1 us (late_us = 2 of the table takes it)"),
         (10**9, " by 1.000 s (late_us = 1000000 of the table takes it)"),
         (10**9 + 1, " by 1.000 s"),
+        (86_400 * 10**9 - 1, " by 86399.999 s"),
+        (86_400 * 10**9, " by more than a day: zeros or noise stand in the file there (a bad sector, a hole), or a clock was reset"),
     ):
         stamps = (START, START + 2 * 10**9, START + 2 * 10**9 - late, START + 3 * 10**9)
         recording = header() + b"".join(record(stamp, frame(5, 60, i + 1)) for i, stamp in enumerate(stamps))
@@ -660,15 +837,29 @@ def of_long_recordings(work):
     """Of more than 10^6 frames the first are read; the others may be anything."""
     links = [{"id": 5, "name": "brake", "bag_ms": 1, "jitter_us": 0, "smax": 200, "integrity": False, "redundancy": False, "skew_us": 0}]
     config, paths = write(os.path.join(work, "t.toml"), toml_of(links)), [os.path.join(work, name) for name in ("a.pcap", "b.pcap")]
-    one = record(START, frame(5, 60, 1))
-    for name, more, goes_on in (("10^6 frames", b"", "it ends clean"), ("a frame more", record(START + 9, frame(5, 60, 2)), "it goes on, and no more was read")):
+    one, goes_on = record(START, frame(5, 60, 1)), "it goes on, and no more was read"
+    many = record(START + 9, frame(5, 60, 2))
+    for name, more, goes_on, part in (
+        ("10^6 frames", b"", "it ends clean", ""),
+        ("a frame more", many, goes_on, " (99 %)"),
+        ("as many more", many * 10**6, goes_on, " (50 %)"),
+        ("as many more, of a pipe", many * 10**6, goes_on, ""),
+    ):
         with open(paths[0], "wb") as file:
             file.write(header() + one * 10**6 + more)
         write(paths[1], header() + record(START + 5, frame(5, 60, 1)))
         text = f"table: {config}: 1 link, constant 50331648\n"
         text += f"network A: {paths[0]}: pcap, little-endian, nanoseconds; 1000000 frames, {moment(START)} to {moment(START)}; {goes_on}\n"
         text += f"network B: {paths[1]}: pcap, little-endian, nanoseconds; 1 frame, {moment(START + 5)} to {moment(START + 5)}; it ends clean\n"
-        text += "overlap: not within what was read of the recordings\nsound: yes; of A by its first 1000000 frames\n" if more else "overlap: none\nquestion: do the recordings belong together? One ends before the other begins\nsound: no, 0 faults and 1 question\n"
+        text += f"overlap: not within what was read of the recordings\nsound: yes; of A by its first 1000000 frames{part}\n" if more else "overlap: none\nquestion: do the recordings belong together? One ends before the other begins\nsound: no, 0 faults and 1 question\n"
+        if name.endswith("pipe"):
+            with open(paths[0], "rb") as given:
+                piped = subprocess.Popen(["cat"], stdin=given, stdout=subprocess.PIPE)
+            ran = asked("--config", config, "--a", "-", "--b", paths[1], stdin=piped.stdout)
+            piped.stdout.close()
+            piped.wait()
+            judged(name, ran, text.replace(f" {paths[0]}:", " standard input:"))
+            continue
         judged(name, asked("--config", config, "--a", paths[0], "--b", paths[1]), text)
 
 
@@ -679,5 +870,7 @@ def cases():
         of_filters(work)
         of_recordings(work)
         of_disorder(work)
+        of_holes(work)
+        of_drops(work)
         of_inputs(work)
         of_long_recordings(work)

@@ -109,7 +109,7 @@ def texts(folder):
     expect("a flight without a finding says what was looked at", judged, *claims)
     many = without(flight, lambda n, at, l: n == "A" and any(i * SECOND // 2 <= at < i * SECOND // 2 + SECOND // 5 for i in range(2, 38)))
     judged = Judged(folder, many)
-    told = re.search(r"^and (\d+) more: (\d+) trouble$", judged.terminal(), re.M)
+    told = re.search(r"^and (\d+) more, by level: trouble (\d+)$", judged.terminal(), re.M)
     expect("more findings than a terminal has", judged, (told and told[1] == told[2] == str(len(judged.json()["findings"]) - 20), f"{told}"))
 
 

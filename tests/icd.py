@@ -93,6 +93,8 @@ def link_text(link, row, frames, a, b, counts):
         values["skew_us"] = min(-(-max(skews, default=0) // 1000), 10**6)
     values.update({key: row[key] for key in KEYS if key in row})
     text = "\n[[link]]\n" + (seen_text(frames, bag * MS) if frames else "")
+    if "original" in row:
+        text += f'# Its name in the ICD: "{row["original"]}".\n'
     if not frames and (a or b):
         counts["unseen"] += 1
         text += "# No frame was seen.\n"
@@ -167,9 +169,9 @@ class Desk:
                 given += [f"--{option}", self.put(option, recording)]
         return given
 
-    def drafts(self, name, document, rows, a=None, b=None, wanted=None):
+    def drafts(self, name, document, rows, a=None, b=None, wanted=None, more=()):
         """The draft whole, at a terminal with what stands beside it, and `watch` takes it."""
-        more = () if wanted is None else ("--constant", str(wanted))
+        more = more if wanted is None else ("--constant", str(wanted))
         arguments = self.arguments(document, a, b, more)
         text, note, told = expected(rows, a, b, wanted)
         ran = run(arguments, stdout=subprocess.PIPE)
@@ -184,6 +186,16 @@ class Desk:
     def refuses(self, name, document, line, status=FAULT, **given):
         ran = run(self.arguments(document, **given), stdout=subprocess.PIPE)
         say(f"icd: {name} is refused", difference(ran, status, line, b""))
+
+    def lists(self, name, document, line, faults, more=()):
+        """A document is refused by its first fault; a person is told all, each after its line."""
+        arguments = self.arguments(document, more=more)
+        ran = run(arguments, stdout=subprocess.PIPE)
+        say(f"icd: {name}, to a script", difference(ran, FAULT, f"afdxmon: {line}", b""))
+        ran = run_at_terminal(arguments, stdin=subprocess.DEVNULL)
+        whole = f"afdxmon: {line}\n" + "".join(f"{self.path('icd.csv')}:{fault}\n" for fault in faults)
+        told = (ran.returncode, ran.stderr) == (FAULT, whole)
+        say(f"icd: {name}, at a terminal", "" if told else f"status {ran.returncode}, {ran.stderr!r}, not {whole!r}")
 
 
 def documents(desk):
@@ -281,12 +293,11 @@ def refused(desk):
     """Documents that are refused, and the first thing that is wrong with each."""
     good = "id,name,bag_ms,jitter_us,smax,integrity,redundancy,skew_us\n1,one,1,0,64,true,true,0\n"
     wrong = {
-        "id": ("", "-1", "65536", "x", "1.0", "0x", "0x10000", "1 2", "08", '"""1"""'),
-        "name": ("a" * 33, "a b", "a.b", "\u00e4", "a/b", "'a'"),
-        "bag_ms": ("0", "3", "129", "256", "-1", "1.0", "x", "true", "1ms"),
+        "id": ("", "-1", "65536", "x", "1.000", "0x", "0x10000", "0x1.0", "0XG", "0X-1", "1 2", "08", "65536.0", '"""1"""'),
+        "bag_ms": ("0", "3", "129", "256", "-1", "-1.0", "1.", ".0", "1.01", "1.000", '"1,0"', "1.0.0", "3.0", "x", "true", "1ms"),
         "jitter_us": ("-1", "100001", "0.5", "x", "1e3"),
         "smax": ("0", "63", "1519", "-64", "x"),
-        "integrity": ("2", "x", "on", "truee", "-1"),
+        "integrity": ("2", "x", "on", "truee", "-1", "1.000", "true.0", "2.0"),
         "redundancy": ("2", "x", "off", "t"),
         "skew_us": ("-1", "1000001", "x"),
     }
@@ -346,20 +357,216 @@ def refused(desk):
     desk.refuses("more than 16 MiB", "id\n" + "#" * 2**24, "afdxmon: file --icd")
 
 
-def told(desk):
-    """What a terminal is told of a document that is refused: its line, and what the column takes."""
-    for document, line, advice in (
-        ("id,smax\n5,0\n", "2 Icd at 2 smax", ":2: smax is an integer, 64 to 1518"),
-        ("id,bag_ms\n5,3\n", "2 Icd at 2 bag_ms", ":2: bag_ms is 1, 2, 4, 8, 16, 32, 64 or 128"),
-        ("id,integrity\n5,on\n", "2 Icd at 2 integrity", ":2: a flag is true or false, yes or no, 1 or 0"),
-        ("name\nx\n", "2 Icd at 1 head", ":1: the first row has the columns' heads: id, and any of name, bag_ms, jitter_us, smax, integrity, redundancy, skew_us"),
-        ("id,smax\n5\n", "2 Icd at 2 cells", ":2: the row has more or fewer cells than the first, or a quote that isn't closed or is followed by text"),
-        ("id\n5\n5\n", "2 Icd at 3 twiceid", ":3: an earlier row has the identifier"),
-        ("id,name\n5,x\n6,x\n", "2 Icd at 3 twicename", ":3: an earlier row has the name"),
+def spreadsheets(desk):
+    """One table, as spreadsheets write it: numbers with a fraction, tabs, a first line `sep=`, lines of blank cells."""
+    chance, taken = random.Random(34), set()
+    rows = [row_of(chance, link, HEADS[1:], taken) for link in (1, 500, 65535)]
+    plain = written(rows)
+
+    def fractions(separator, fraction):
+        lines = [line.split(separator) for line in written(rows, delimiter=separator).splitlines()]
+        for line in lines[1:]:
+            flags = {"true": "1", "false": "0"}
+            line[:] = [cell + fraction if cell.isdigit() and at != 1 else flags[cell] + fraction if cell in flags else cell for at, cell in enumerate(line)]
+        return "\n".join(separator.join(line) for line in lines) + "\n"
+
+    tabs = written(rows, delimiter="\t")
+    for name, document in (
+        ("numbers as 4.0", fractions(",", ".0")),
+        ("numbers as 4.00", fractions(",", ".00")),
+        ("numbers as 4,0 among semicolons", fractions(";", ",0")),
+        ("numbers as 4,00 among tabs", fractions("\t", ",00")),
+        ("numbers as 4.0 among semicolons", fractions(";", ".0")),
+        ("numbers as 4,0 after sep=|", "sep=|\n" + fractions("|", ",0")),
+        ("identifiers after 0X", plain.replace("\n500,", "\n0X1F4,").replace("\n65535,", "\n0Xffff,")),
+        ("tabs", tabs),
+        ("tabs, and a comma and a semicolon in a cell", written([{**row, "remark": "a, b; c"} for row in rows], (*HEADS, "remark"), delimiter="\t")),
+        ("tabs, and a comma in a quoted head", written([{**row, "a, b": "c"} for row in rows], ("a, b", *HEADS), delimiter="\t", quoting=csv.QUOTE_ALL)),
+        ("tabs after lines of tabs", "\t" * 7 + "\n" + "\t" * 7 + "\n" + tabs),
+        ("tabs after a mark", "\ufeff" + tabs),
+        ("sep=;", "sep=;\n" + written(rows, delimiter=";")),
+        ("SEP=; and a carriage return", "SEP=;\r\n" + written(rows, delimiter=";", lineterminator="\r\n")),
+        ("sep=, and a semicolon in the first head", "sep=,\n" + written([{**row, "a;b": "c"} for row in rows], ("a;b", *HEADS))),
+        ("sep= and a tab", "sep=\t\n" + tabs),
+        ("sep=| after a mark", "\ufeffsep=|\n" + written(rows, delimiter="|")),
+        ("lines before the heads", "\n\r\n,,,\n , ,\n" + plain),
+        ("blank lines and lines of fewer and more blank cells", plain.replace("\n500,", "\n\n,\n,,,,,,,,,,,\n \n500,")),
     ):
-        ran = run_at_terminal(desk.arguments(document), stdin=subprocess.DEVNULL)
-        whole = f"afdxmon: links {line}\n{desk.path('icd.csv')}{advice}\n"
-        say(f"icd: {line}, at a terminal", "" if (ran.returncode, ran.stderr) == (FAULT, whole) else f"status {ran.returncode}, {ran.stderr!r}, not {whole!r}")
+        desk.drafts(name, document, rows)
+    desk.refuses("a separator that sep= doesn't name", "sep=:\nid:name\n", "afdxmon: links 2 Icd at 1 head")
+    desk.refuses("sep= of two characters", "sep=;;\nid;name;x\n", "afdxmon: links 2 Icd at 1 head")
+    desk.refuses("a row after sep=", "sep=;\nid;smax\n1;64\n2;0\n", "afdxmon: links 2 Icd at 4 smax")
+    desk.refuses("a quote after sep=", 'sep=;\nid;b\n1;"\n', "afdxmon: links 2 Icd at 3 cells")
+    desk.refuses("a comma in a number among commas", 'id,bag_ms\n1,"4,0"\n', "afdxmon: links 2 Icd at 2 bag_ms")
+    for text in ("4,000", "4.000", "4,01", "4,", ",0", "4,0.0", "4.0,0", "-4,0"):
+        desk.refuses(f"{text} among semicolons", f"id;bag_ms\n1;{text}\n", "afdxmon: links 2 Icd at 2 bag_ms")
+
+
+# Heads that are read as each key's. `Smax` and `BAG` may lack their unit; jitter and skew may not.
+SYNONYMS = {
+    "id": ("ID", "Id.", "VL", "VL ID", "vl-id", "VL_ID", "VLID", "Virtual Link", "Virtual Link ID"),
+    "name": ("Name", "VL Name", "Virtual Link Name"),
+    "bag_ms": ("BAG", "BAG [ms]", "BAG (ms)", "Bag ms", "bag/ms", "Bandwidth Allocation Gap", "Bandwidth Allocation Gap (ms)"),
+    "jitter_us": ("Jitter [us]", "Jitter (\u00b5s)", "Max. Jitter [\u03bcs]", "Jitter max us", "JITTER US"),
+    "smax": ("Smax", "S max", "Smax [bytes]", "Smax (byte)", "Lmax", "Lmax [octets]", "Max Frame Size", "Max. frame length (bytes)"),
+    "integrity": ("Integrity", "Integrity Checking"),
+    "redundancy": ("Redundancy", "Redundancy Management"),
+    "skew_us": ("Skew [us]", "SkewMax [us]", "Max Skew (\u00b5s)", "skew_max_us"),
+}
+# Heads that name a key in another unit, or lack it.
+OTHER_UNITS = {
+    "bag_ms": ("BAG [us]", "BAG (s)", "BAG [Hz]"),
+    "jitter_us": ("Jitter", "Max Jitter [ms]", "Jitter (ns)"),
+    "smax": ("Smax [bits]", "Lmax [words]"),
+    "skew_us": ("SkewMax", "Skew Max [ms]", "Max skew (s)"),
+}
+UNITS = {"bag_ms": "ms", "jitter_us": "us", "smax": "bytes", "skew_us": "us"}
+
+
+def heads(desk):
+    """The heads of columns: synonyms, other units, and heads that `--column` names."""
+    chance, taken = random.Random(35), set()
+    rows = [row_of(chance, link, HEADS[1:], taken) for link in (1, 500)]
+    plain = written(rows)
+    for key, synonyms in SYNONYMS.items():
+        for synonym in synonyms:
+            changed = [synonym if head == key else head for head in HEADS]
+            desk.drafts(f"{synonym} for {key}", plain.replace(",".join(HEADS), ",".join(changed), 1), rows)
+    desk.drafts("a key's name before its synonyms", written([{**row, "VL": "x", "BAG [us]": 9, "Jitter": 3} for row in rows], ("VL", "BAG [us]", *HEADS, "Jitter")), rows)
+    bare = [{"id": 7}]
+    for head in ("VL IDs", "ident", "BAG size", "Smaximum", "Jitters [us]", "Latency [us]", "\u00fc"):
+        desk.drafts(f"{head} is no key's", f"id,{head}\n7,x\n", bare)
+    for key, others in OTHER_UNITS.items():
+        unit = UNITS[key]
+        for other in others:
+            why = f'1: column B, "{other}", doesn\'t say {unit}: if it is in {unit}, --column {key}=HEAD takes it, and --column {key}= passes it over'
+            desk.lists(f"{other} for {key}", f"id,{other}\n7,64\n", "links 2 Icd at 1 head", [why])
+            desk.drafts(f"{other} passed over", f"id,{other}\n7,64\n", bare, more=("--column", f"{key}="))
+            row = {"id": 7, key: 64}
+            desk.drafts(f"{other} taken", f"id,{other}\n7,64\n", [row], more=("--column", f"{key}={other}"))
+    desk.drafts("a head that is given", "VL-Nr,Gr\u00f6\u00dfe\n7,64\n", [{"id": 7, "smax": 64}], more=("--column", "id=VL-Nr", "--column=smax=Gr\u00f6\u00dfe"))
+    desk.drafts("a head that is given in another case, with spaces", "vl-nr ,b\n7,64\n", bare, more=("--column", "id= VL-Nr"))
+    desk.drafts("a head with an equals sign", "a=b,b\n7,64\n", bare, more=("--column", "id=a=b"))
+    desk.drafts("a given head before the key's name", "id,VL\n9,7\n", bare, more=("--column", "id=VL"))
+    given = [word for key in HEADS for word in ("--column", f"{key}=x {key}")]
+    desk.drafts("all heads given", plain.replace(",".join(HEADS), ",".join(f"x {key}" for key in HEADS), 1), rows, more=given)
+    desk.lists("a given head that isn't there", "id,b\n7,64\n", "links 2 Icd at 1 head", ["1: no head is the one that --column smax= names"], more=("--column", "smax=c"))
+    desk.lists("a given head twice", "id,b,B\n7,64,64\n", "links 2 Icd at 1 head", ['1: column C, "B", is the second of smax: --column smax=HEAD says which is'], more=("--column", "smax=b"))
+    desk.lists("two synonyms", "VL,VL ID\n7,7\n", "links 2 Icd at 1 head", ['1: column B, "VL ID", is the second of id: --column id=HEAD says which is'])
+    for why, more in (
+        ("--column is KEY=HEAD, each KEY once", ("--column", "id")),
+        ("--column is KEY=HEAD, each KEY once", ("--column", "ID=x")),
+        ("--column is KEY=HEAD, each KEY once", ("--column", "constant=x")),
+        ("--column is KEY=HEAD, each KEY once", ("--column", "=x")),
+        ("--column is KEY=HEAD, each KEY once", ("--column", "id=x", "--column", "id=y")),
+    ):
+        desk.refuses(f"arguments {' '.join(more)}", "id\n7\n", lambda text, why=why: why in text, USAGE, more=more)
+    ran = run(["links", "--a", desk.put("empty", header()), "--column", "id=x"], stdout=subprocess.PIPE)
+    say("icd: --column without --icd", difference(ran, USAGE, lambda text: "--column needs --icd, the document whose column it names" in text, b""))
+
+
+# Names that no table holds, their links, and the names that the draft has.
+NAMES = (
+    (1, "Engine 1", "Engine_1_1"),
+    (2, "Engine/1", "Engine_1_2"),
+    (3, "K\u00fchlung", "Kuehlung_3"),
+    (4, "\u00c4\u00d6\u00dc\u00e4\u00f6\u00fc\u00df", "AeOeUeaeoeuess_4"),
+    (5, "a.b", "a_b_5"),
+    (6, "///", "vl_6"),
+    (7, "(x)", "x_7"),
+    (8, "a" * 33, "a" * 30 + "_8"),
+    (10, "a" * 28 + "\u00e4", "a" * 28 + "_10"),
+    (11, "a" * 27 + "\u00e4", "a" * 27 + "ae_11"),
+    (12, "\u00e9\u00e8 \u00e0, \u00f1\u00c7", "ee_a_nC_12"),
+    (13, "A-B__C D", "A-B__C_D_13"),
+    (14, "\u65e5\u672c", "vl_14"),
+    (15, "5 \u00b5s", "5_us_15"),
+    (16, "_ x", "_x_16"),
+    (17, "x _", "x__17"),
+    (18, "'x'", "x_18"),
+    (65535, "b" * 33, "b" * 26 + "_65535"),
+)
+
+
+def names(desk):
+    """Names that no table holds: the draft has others, which differ, and says the documents' own."""
+    rows = [{"id": link, "name": name, "original": original} for link, original, name in NAMES]
+    document = written([{"id": link, "name": original} for link, original, _ in NAMES], ("id", "name"))
+    desk.drafts("names that no table holds", document, rows)
+    backwards = written([{"id": link, "name": original} for link, original, _ in NAMES[::-1]], ("id", "name"))
+    desk.drafts("names that no table holds, the other way round", backwards, rows)
+    for count in (1, 31, 32):
+        desk.drafts(f"a name of {count} letters", f"id,name\n7,{'a' * count}\n", [{"id": 7, "name": "a" * count}])
+    for count, shown in ((200, "a" * 200), (201, "a" * 200 + "..")):
+        desk.drafts(f"a name of {count} letters", f"id,name\n7,{'a' * count}\n", [{"id": 7, "name": "a" * 30 + "_7", "original": shown}])
+    for name, cell, shown, made in (
+        ("a line break", '"a\nb"', "a\\u{a}b", "a_b_7"),
+        ("a quote", '"a""b"', 'a"b', "a_b_7"),
+        ("a delete", "a\x7f", "a\\u{7f}", "a_7"),
+        ("a hash", "# a", "# a", "a_7"),
+    ):
+        desk.drafts(f"{name} in a name", f"id,name\n7,{cell}\n", [{"id": 7, "name": made, "original": shown}])
+    frames = header() + b"".join(record(START + k * MS, frame(7, 80, k % 255 + 1)) for k in range(3))
+    sent_rows = [{"id": 7, "name": "a_b_7", "original": "a b"}, {"id": 8, "name": "c_d_8", "original": "c d"}]
+    desk.drafts("names that no table holds, and a recording", "id,name\n7,a b\n8,c d\n", sent_rows, frames)
+    desk.refuses("a name that is made for another link", "id,name\n7,a b\n8,a_b_7\n", "afdxmon: links 2 Icd at 3 twicename")
+    desk.refuses("the same, the other way round", "id,name\n8,a_b_7\n7,a b\n", "afdxmon: links 2 Icd at 3 twicename")
+    desk.refuses("a name twice that no table holds", "id,name\n7,a b\n8,a b\n", "afdxmon: links 2 Icd at 3 twicename")
+
+
+def told(desk):
+    """What is told of a document that is refused: all its faults, each with its line, its column and what stands there."""
+    none = "the first row has the columns' heads: id, and any of name, bag_ms, jitter_us, smax, integrity, redundancy, skew_us; none is id, and --column id=HEAD names it"
+    smax = "smax is an integer, 64 to 1518"
+    ids = "id is an integer, 0 to 65535"
+    flag = "a flag is true or false, yes or no, 1 or 0"
+    for name, document, line, faults in (
+        ("a number", "id,smax\n5,0\n", "2 smax", [f'2: column B, "smax", has "0": {smax}']),
+        ("a BAG", "id,BAG [ms]\n5,3\n", "2 bag_ms", ['2: column B, "BAG [ms]", has "3": bag_ms is 1, 2, 4, 8, 16, 32, 64 or 128']),
+        ("a flag", "id,integrity\n5,on\n", "2 integrity", [f'2: column B, "integrity", has "on": {flag}']),
+        ("a blank identifier", "name,id\nx,\n", "2 id", [f'2: column B, "id", is blank: {ids}']),
+        ("no identifiers", "name\nx\n", "1 head", [f"1: {none}"]),
+        ("nothing", "", "1 head", [f"1: {none}"]),
+        ("a length", "id,smax\n5\n", "2 cells", ["2: the row has 1 cells, and the heads are 2"]),
+        ("a quote", 'id,smax\n5,"6\n', "2 cells", ["2: a quote isn't closed, or text follows it"]),
+        ("an identifier twice", "id\n5\n5\n", "3 twiceid", ['3: column A, "id", has "5": the row of line 2 has the identifier']),
+        ("a name twice", "id,name\n5,x\n\n6,x\n", "4 twicename", ['4: column B, "name", has "x": the row of line 2 has the name']),
+        ("all cells of a row", "VL ID,name,BAG,jitter_us,Smax [bytes],integrity,redundancy,skew_us\nx,n,x,x,x,x,x,x\n", "2 id", [
+            f'2: column A, "VL ID", has "x": {ids}', '2: column C, "BAG", has "x": bag_ms is 1, 2, 4, 8, 16, 32, 64 or 128',
+            '2: column D, "jitter_us", has "x": jitter_us is an integer, 0 to 100000', f'2: column E, "Smax [bytes]", has "x": {smax}',
+            f'2: column F, "integrity", has "x": {flag}', f'2: column G, "redundancy", has "x": {flag}',
+            '2: column H, "skew_us", has "x": skew_us is an integer, 0 to 1000000']),
+        ("rows that are wrong among good ones", "id,smax,name\n1,64,a\n2,1,b\n3,64,c\n4,x,d\n2,64,e\n5,64,d\n", "3 smax", [
+            f'3: column B, "smax", has "1": {smax}', f'5: column B, "smax", has "x": {smax}',
+            '6: column A, "id", has "2": the row of line 3 has the identifier', '7: column C, "name", has "d": the row of line 5 has the name']),
+        ("a wrong cell of a row, and an identifier that an earlier one has", "id,smax\n5,64\n5,0\n", "3 smax", [
+            f'3: column B, "smax", has "0": {smax}', '3: column A, "id", has "5": the row of line 2 has the identifier']),
+        ("lengths, then heads, then values", "id,smax,Jitter\n1,0,1\n2,64\n3,64,1,1\n", "3 cells", [
+            "3: the row has 2 cells, and the heads are 3", "4: the row has 4 cells, and the heads are 3",
+            '1: column C, "Jitter", doesn\'t say us: if it is in us, --column jitter_us=HEAD takes it, and --column jitter_us= passes it over',
+            f'2: column B, "smax", has "0": {smax}']),
+        ("heads and values without identifiers", "name,smax\na,0\n", "1 head", [f"1: {none}", f'2: column B, "smax", has "0": {smax}']),
+        ("a quote alone", 'id,smax\n5,0\n6\n7,"\n', "4 cells", ["4: a quote isn't closed, or text follows it"]),
+        ("40 characters", f"id\n{'x' * 40}\n", "2 id", [f'2: column A, "id", has "{"x" * 40}": {ids}']),
+        ("41 characters", f"id\n{'x' * 41}\n", "2 id", [f'2: column A, "id", has "{"x" * 40}..": {ids}']),
+        ("a control", "id\na\x1bb\n", "2 id", [f'2: column A, "id", has "a\\u{{1b}}b": {ids}']),
+        ("4097 links, and rows after them", "id\n" + "".join(f"{link}\n" for link in range(4098)) + "x\n", "4098 toomany", ["4098: there are at most 4096 links in a table, and no further row is read"]),
+    ):
+        desk.lists(name, document, f"links 2 Icd at {line}", faults)
+    for place, letters in ((25, "Z"), (26, "AA"), (51, "AZ"), (52, "BA"), (701, "ZZ"), (702, "703")):
+        document = "id," + "," * (place - 1) + "smax\n1" + "," * place + "0\n"
+        desk.lists(f"column {letters}", document, "links 2 Icd at 2 smax", [f'2: column {letters}, "smax", has "0": {smax}'])
+    for count, more in ((19, []), (20, []), (21, [" and 1 more fault"]), (22, [" and 2 more faults"]), (4096, [" and 4076 more faults"])):
+        document = "id,smax\n" + "".join(f"{link},0\n" for link in range(count))
+        faults = [f'{line + 2}: column B, "smax", has "0": {smax}' for line in range(min(count, 20))]
+        desk.lists(f"{count} faults", document, "links 2 Icd at 2 smax", faults + more)
+    for count in (19, 20):
+        document = "name,smax\n" + "5\n" * count
+        faults = [f"{line + 2}: the row has 1 cells, and the heads are 2" for line in range(count)]
+        desk.lists(f"{count} lengths and no identifiers", document, "links 2 Icd at 2 cells", faults + ([f"1: {none}"] if count < 20 else [" and 1 more fault"]))
+    ran = run(["links", "--icd", "-", "--verbose"], input=b"id,smax\n5,0\n", stdout=subprocess.PIPE)
+    whole = f'afdxmon: links 2 Icd at 2 smax\nstandard input:2: column B, "smax", has "0": {smax}'
+    say("icd: faults of standard input, with --verbose", difference(ran, FAULT, whole, b""))
 
 
 def unreadable(desk):
@@ -398,6 +605,9 @@ def cases():
         documents(desk)
         forms(desk)
         recorded(desk)
+        spreadsheets(desk)
+        heads(desk)
+        names(desk)
         refused(desk)
         told(desk)
         unreadable(desk)

@@ -3,6 +3,7 @@
 Ledgers come of `afdxmon watch` on recordings that are made here: traffic of some links with losses, bursts, resets, silences
 of a network, late copies, frames outside the table.
 """
+import csv
 import json
 import math
 import os
@@ -396,6 +397,211 @@ def what_is_told(folder):
         say(f"report: {name}", fault)
 
 
+# ---- a long flight: what happened is marked where it was, and times are those of the day
+
+HOUR_LINKS = [{"id": 10 + i, "name": f"link_{i}", "bag_ms": 128, "jitter_us": 0, "smax": 100, "integrity": True, "redundancy": True, "skew_us": 1000}
+              for i in range(10)]
+SECONDS = 10**9
+
+
+def long_taps():
+    """Two hours of ten links, a frame each 4 s: link_0 pauses from 1000 s on for 100 s, B is silent from 3000 s to 3100 s, both clocks go
+    forward by 600 s at 5000 s. With the frames, the last before each and the first after it."""
+    taps = {"A": [], "B": []}
+    for place, link in enumerate(HOUR_LINKS):
+        number = 0
+        for second in range(0, 7200, 4):
+            if place == 0 and 1000 <= second < 1100:
+                continue
+            number = following(number)
+            at = second * SECONDS + place * 30 * STEP + (600 * SECONDS if second >= 5000 else 0)
+            taps["A"].append((at, frame(link["id"], 60, number)))
+            if not 3000 <= second < 3100:
+                taps["B"].append((at + 20_000, frame(link["id"], 60, number)))
+    for n in "AB":
+        taps[n].sort(key=lambda one: one[0])
+    return taps
+
+
+def around(times, moment):
+    """The last time before a moment and the first from there on."""
+    return max(at for at in times if at < moment), min(at for at in times if at >= moment)
+
+
+def clock(at):
+    """A moment of the long flight, which begins at 08:00 UTC."""
+    seconds = 8 * 3600 + at // SECONDS
+    return f"{seconds // 3600:02}:{seconds // 60 % 60:02}:{seconds % 60:02} (+{(at + 5 * 10**7) // 10**8 / 10:.1f} s)"
+
+
+def marks_of(row):
+    """Of each mark in a drawing its class, where its half begins, where it begins in tenths of a bin, and how wide it is."""
+    found = re.findall(r'<rect class="(\w+)" y="(\d+)" height="\d+" x="([\d.]+)" width="([\d.]+)"><title>([^<]*)</title>', row)
+    return {(kind, int(y), round(float(x) * 10), round(float(width) * 10), title) for kind, y, x, width, title in found}
+
+
+def marked_where_it_was(folder):
+    """The timeline and the strips mark what happened where it was, and say times of a long flight in UTC too."""
+    taps = long_taps()
+    table, ledger, _ = ledger_in(folder, table_of(HOUR_LINKS), taps)
+    said = json.loads(report(table, ledger, "--json").stdout)
+    page = report(table, ledger).stdout.decode("ascii")
+    width, base = said["width"], 12
+
+    def mark(kind, half, begin, end, title):
+        return kind, half * base, begin * 10 // width, max(end - begin, width // 2) * 10 // width, title
+
+    silent = around([at for at, _ in taps["B"]], 3000 * SECONDS)
+    step = [(max(at for at, _ in taps[n] if at < 5000 * SECONDS), min(at for at, _ in taps[n] if at >= 5000 * SECONDS)) for n in "AB"]
+    own = [at for at, data in taps["A"] if data[5] == 10]
+    pause = around(own, 1000 * SECONDS)
+    timeline = page.split("<h2>Timeline")[1].split("</section>")[0]
+    events = marks_of(timeline.split('<span class="lb">events</span>')[1].split("</svg>")[0])
+    wanted = mark("si", 1, *silent, "network silent")
+    say("report: a silence is marked where it was", "" if wanted in events and sum(one[0] == "si" for one in events) == 1 else f"{wanted}: {events}")
+    steps = {one[1:4] for one in events if one[0] == "st"}
+    near = all(any(half == one[0] and abs(one[1] - begin * 10 // width) <= 1 for one in steps) for half, (begin, _) in zip((0, base), step))
+    say("report: a step of both clocks is marked where it was", "" if near and len(steps) == 2 else f"{step}: {events}")
+    paused = {one[1:] for one in events if one[0] == "ou"}
+    wanted = {mark("ou", half, *pause, "link pauses")[1:] for half in (0, 1)}
+    near = len(paused) == 2 and all(abs(one[1] - other[1]) <= 1 for one, other in zip(sorted(paused), sorted(wanted)))
+    say("report: an outage is marked where it was", "" if near else f"{wanted}: {paused}")
+    strip = page.split('<section class="det" id="v10">')[1].split("</section>")[0]
+    kinds = {label: {one[0] for one in marks_of(row)} for label, row in
+             ((row.split('<span class="lb">')[1].split("<")[0], row) for row in strip.split('<div class="row">')[1:])}
+    say("report: a link's strip marks them", "" if kinds["frames"] == {"si", "st", "ou"} and kinds["interval A"] == {"st", "ou"} else f"{kinds}")
+    text = next(one["text"] for one in said["findings"] if one["kind"] == "silence")
+    wanted = f"Network B silent for 104 s, from {clock(silent[0])} to {clock(silent[1])}: 250 numbers of 10 links are missing"
+    say("report: times of a long flight", "" if text == wanted else f"{text!r} in place of {wanted!r}")
+    used = min((int(said["end"]) - int(said["start"])) // width + 1, 240)
+    span = used * width
+    labels = [f"{8 + at // 3600:02}:{at // 60 % 60:02}" for at in range(0, span // SECONDS, 900) if 500 <= at * SECONDS * 10_000 // span < 9850]
+    axis = timeline.split('<div class="ax">')[1].split("</div>")[0]
+    told = re.findall(r'<b style="left:[\d.]+%">([^<]*)</b>', axis)
+    say("report: the axis of a long flight", "" if told == ["UTC", *labels] else f"{told} in place of {labels}")
+    plain = ": 1 sign<" in page and " in all" not in page and "with a notice" in page
+    say("report: counts in plain words", "" if plain else "they aren't")
+    narrow = page.split("@media screen and (max-width:1000px)")[1].split("@media")[0]
+    say("report: a narrow page hides no column", "" if ".ms{display:none}" not in narrow and ".wide{display:block" in narrow else "it does")
+
+
+# ---- a status that says what was found, or how a recording ended
+
+def told_to_fail(folder):
+    """--fail-on: the status, the line and the JSON's member, with findings of trouble, of notice alone, and of neither."""
+    def taps(lost=(), zeros=()):
+        made = {"A": [], "B": []}
+        for i in range(300):
+            data = frame(10, 60, 0 if i in zeros else i % 255 + 1)
+            made["B"].append((i * STEP + 20_000, data))
+            if i not in lost:
+                made["A"].append((i * STEP, data))
+        return made
+
+    for name, how, levels in (("trouble", {"lost": range(100, 120)}, {"trouble"}), ("notice", {"zeros": (150,)}, {"notice"}), ("nothing", {}, set())):
+        table, ledger, _ = ledger_in(folder, table_of(one_link()), taps(**how))
+        found = json.loads(report(table, ledger, "--json").stdout)
+        counts = {level: sum(one["level"] == level for one in found["findings"]) for level in ("trouble", "notice")}
+        say(f"report: a flight with {name}", "" if {level for level in counts if counts[level]} == levels and found["fail_on"] is None else f"{counts}")
+        for level, count, words in (("trouble", counts["trouble"], "of trouble"), ("notice", sum(counts.values()), "of trouble or notice")):
+            line = f"afdxmon: findings {count} {words}: --fail-on {level}" if count else ""
+            ran = report(table, ledger, "--fail-on", level, "--json")
+            say(f"report: a flight with {name}, --fail-on {level}", difference(ran, 3 if count else SUCCESS, line))
+            member = json.loads(ran.stdout)["fail_on"]
+            say(f"report: a flight with {name}, --fail-on {level}: JSON", "" if member == {"level": level, "findings": count} else f"{member}")
+    ran = report(table, ledger, "--fail-on", "anything")
+    say("report: another level", "" if ran.returncode == 2 and b"--fail-on is trouble or notice" in ran.stderr else f"{ran.stderr!r}")
+
+
+def strict(folder):
+    """--strict: a recording that ends early has status 3, and its note as ever; AFDXMON_VERBOSE=1 is --verbose."""
+    taps = {n: [(i * STEP, frame(10, 60, i % 255 + 1)) for i in range(9)] for n in "AB"}
+    table, ledger, _ = ledger_in(folder, table_of(one_link()), taps)
+    paths = [os.path.join(folder, name) for name in ("a.pcap", "b.pcap")]
+    command = ["watch", "--config", table, "--a", paths[0], "--b", paths[1], "--ledger", ledger]
+    with open(paths[1], "rb") as whole:
+        held = whole.read()
+    note = "afdxmon: note: recording of network B ends cut after 8 frames: truncated within a record"
+    say("watch: --strict with whole recordings", difference(run([*command, "--strict"], stdout=subprocess.PIPE), SUCCESS, "", b""))
+    with open(paths[1], "wb") as out:
+        out.write(held[:-1])
+    say("watch: a recording that ends early", difference(run(command, stdout=subprocess.PIPE), SUCCESS, note, b""))
+    say("watch: --strict with one that ends early", difference(run([*command, "--strict"], stdout=subprocess.PIPE), 3, note, b""))
+    whole = run([*command, "--verbose"], stdout=subprocess.PIPE).stderr
+    for value, wanted in (("1", whole), ("0", note.encode() + b"\n"), ("", note.encode() + b"\n")):
+        ran = run(command, stdout=subprocess.PIPE, env={**os.environ, "AFDXMON_VERBOSE": value})
+        say(f"watch: AFDXMON_VERBOSE={value}", "" if ran.stderr == wanted and wanted else f"{ran.stderr!r} in place of {wanted!r}")
+
+
+# ---- a part of a flight
+
+def counts_of(found):
+    """The lines by network, and the links that have some."""
+    return found["a"]["frames"], found["b"]["frames"], sorted(link["id"] for link in found["links"] if link["a"]["frames"] + link["b"]["frames"])
+
+
+def parts(folder):
+    """--from, --to, --link and --network tell of the lines that cut takes by the same words, and cut's lines are taken as a part."""
+    chance = random.Random(12)
+    links = [dict(l, redundancy=True, integrity=True) for l in links_of(chance, 5)]
+    table, ledger, _ = ledger_in(folder, table_of(links), traffic(chance, links, 2, 0.02))
+    part = os.path.join(folder, "part.ledger")
+    for name, words in (("a time", ["--from", "+0.5", "--to", "+1.25s"]), ("a link", ["--link", "link_1,10"]), ("a network", ["--network", "B"]),
+                        ("a minute", ["--from", "08:00", "--to", "08:00:00.7"]), ("all of these", ["--from", "+0.5s", "--to", "+1", "--link", "link_*", "--network", "A"]),
+                        ("nothing", ["--from", "+100"])):
+        cut = run(["cut", "--config", table, "--ledger", ledger, *words, "--ledger-only", "-o", part], stdout=subprocess.PIPE)
+        with open(part, encoding="ascii") as text:
+            rows = [line.split() for line in text]
+        wanted = (sum(row[1] == "A" for row in rows), sum(row[1] == "B" for row in rows), sorted({int(row[3]) for row in rows if row[5] in ("regular", "toolong")}))
+        ran = report(table, ledger, *words, "--json")
+        found = json.loads(ran.stdout) if ran.returncode == SUCCESS else {}
+        told = counts_of(found) if found else ran.stderr
+        say(f"report: of {name}", "" if cut.returncode == SUCCESS and told == wanted and found["counts"]["frames"] == len(rows) else f"{told} in place of {wanted}, {cut.stderr!r}")
+        asked = dict(zip(("from", "to", "link", "network"), [None] * 4)) | {word[2:]: value for word, value in zip(words[::2], words[1::2])}
+        say(f"report: of {name}: JSON says so", "" if found.get("part") == {**asked, "partial": False} else f"{found.get('part')}")
+        page = report(table, ledger, *words).stdout.decode("ascii")
+        say(f"report: of {name}: the page says so", "" if "<b>A part of the flight:</b>" in page and page_fault(table, ledger) == "" else "it doesn't")
+        if not rows:
+            continue
+        ran = report(table, part, "--json")
+        alone = json.loads(ran.stdout) if ran.returncode == SUCCESS else {}
+        same = alone and counts_of(alone) == wanted and alone["part"]["partial"] is True and alone["unaccounted"] == {}
+        same = same and [one["text"] for one in alone["findings"]] == [one["text"] for one in found["findings"]]
+        say(f"report: of cut's lines of {name}", "" if same and ran.stderr == b"" else f"{ran.stderr!r} {alone and counts_of(alone)}")
+    whole = json.loads(report(table, ledger, "--json").stdout)
+    say("report: of all: no part", "" if whole["part"] is None else f"{whole['part']}")
+    ran = report(table, ledger, "--network", "C")
+    say("report: of another network", "" if ran.returncode == 2 and b"--network is A or B" in ran.stderr else f"{ran.stderr!r}")
+
+
+def links_as_values(folder):
+    """--csv: a row for each link, with the numbers of the JSON. --title: the page's."""
+    chance = random.Random(13)
+    links = links_of(chance, 5)
+    table, ledger, _ = ledger_in(folder, table_of(links), traffic(chance, links, 2, 0.05))
+    path = os.path.join(folder, "links.csv")
+    ran = report(table, ledger, "--json", "--csv", path, "--title", "Flight <7>")
+    found = json.loads(ran.stdout)["links"]
+    with open(path, encoding="ascii", newline="") as text:
+        rows = list(csv.DictReader(text))
+    wanted = []
+    for link in found:
+        signs = {f"{sign['sign']}_{n}": str(sign["count"]) for n in "ab" for sign in link[n]["signs"]}
+        known = {name: str(link[n][what]) if link[n][what] is not None else "" for what in ("least", "greatest") for n in "ab"
+                 for name in [f"{'most' if what == 'greatest' else what}_{n}_ns"]}
+        row = {"id": str(link["id"]), "name": link["name"], "level": link["level"], "signs": str(link["signs"]), "copies": str(link["copies"]),
+               "frames_a": str(link["a"]["frames"]), "frames_b": str(link["b"]["frames"]), "lost_both": str(link["lost_both"]),
+               "late_most_ns": str(link["late_greatest"]), **known}
+        wanted.append(row | {f"{word}_{n}": signs.get(f"{word}_{n}", "0") for word in ("toolong", "excess", "out", "lost", "repeat", "reset", "alone", "late", "early")
+                             for n in "ab"})
+    told = [{key: row[key] for key in wanted[0]} for row in rows]
+    say("report: the links as comma-separated values", "" if told == wanted else f"{told[:1]} in place of {wanted[:1]}")
+    page = report(table, ledger, "--title", "Flight <7>").stdout.decode("ascii")
+    say("report: a title", "" if "<title>Flight &#60;7&#62;, " in page and "<h1>Flight &#60;7&#62;</h1>" in page else page[:400])
+    ran = report(table, ledger, "--csv", ledger)
+    say("report: values in place of the ledger", "" if ran.returncode == FAULT and ran.stderr == b"afdxmon: file --csv\n" else f"{ran.stderr!r}")
+
+
 def in_a_browser(folder):
     browser = shutil.which("chromium") or shutil.which("chromium-browser")
     if browser is None:
@@ -432,6 +638,11 @@ def cases():
         unfinished(folder)
         broken(folder)
         what_is_told(folder)
+        marked_where_it_was(folder)
+        told_to_fail(folder)
+        strict(folder)
+        parts(folder)
+        links_as_values(folder)
         in_a_browser(folder)
 
 

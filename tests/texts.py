@@ -205,6 +205,7 @@ Options:
       --workers <N>      The number of workers, 1 to 8 [default: 2]
       --late-us <N>      Take timestamps out of order by N microseconds, in place of the table's late_us
       --quiet            Leave out progress and summary at a terminal
+      --strict           End with status 3 where a recording ends early, not with 0
       --pcapng           Write the capture as pcapng, with verdicts as packet comments
   -v, --verbose          Tell standard error, whatever it is, what a terminal is told but progress
   -h, --help             Print help
@@ -257,8 +258,8 @@ Options:
 Frames are written whole, as recorded, in the ledger's order. A frame is selected if it meets every
 option from --link to --filters that is given. With --around the ledger is read twice: it has to be
 a file. Lines of a network whose recording isn't given are passed over. A TIME is
-'2027-01-15T08:00:12.119534506Z', the '08:00:12.1195' of the recording's day in UTC, '+12.1195'
-seconds after the ledger's first frame, or nanoseconds since 1970. A --to earlier in the day than
+'2027-01-15T08:00:12.119534506Z', the '08:00:12.1195' or '08:00' of the recording's day in UTC,
+'+12.1195' or '+12s' after the ledger's first frame, or nanoseconds since 1970. A --to earlier in the day than
 --from is one of the next day. '-' is standard input, or standard output.
 
 Example: keep the frames that policing discarded
@@ -271,15 +272,17 @@ Options:
       --a <FILE>           The recording of network A, pcap or pcapng files, or @LIST of paths
       --b <FILE>           The recording of network B, pcap or pcapng files, or @LIST of paths
       --constant <NUMBER>  The constant field of the links' frames, as 0x03000000
-      --icd <FILE>         The links that are specified, comma-separated values
+      --icd <FILE>         The links that are specified: values separated by commas, semicolons or tabs
+      --column <KEY=HEAD>  The head of a key's column in the ICD, as id='VL-Nr'; may be given again
   -v, --verbose            Tell standard error, whatever it is, what a terminal is told but progress
   -h, --help               Print help
 
 The draft says what was seen and not what was specified: check it against the ICD. With --icd it says
 what the ICD specifies, and what was seen where that leaves a value out; comments say where both differ.
-The ICD is comma-separated values: the heads of its columns are id and any of name, bag_ms, jitter_us,
-smax, integrity, redundancy and skew_us, others are passed over. Without --constant the draft has the
-most common constant field with bits 24 and 25 set. '-' is standard input.
+The ICD is a table as spreadsheets export it: the heads of its columns are id and any of name, bag_ms,
+jitter_us, smax, integrity, redundancy and skew_us, or as 'VL ID' and 'BAG [ms]'; --column names others,
+and all else is passed over. Without --constant the draft has the most common constant field with bits 24
+and 25 set. '-' is standard input.
 
 Example: a table from two recordings, and a run with it
   afdxmon links --a a.pcap --b b.pcap > draft.toml
@@ -289,17 +292,26 @@ Example: a table from two recordings, and a run with it
 Usage: afdxmon report [OPTIONS] --config <FILE> --ledger <FILE>
 
 Options:
-      --config <FILE>    The table of virtual links, a TOML document
-      --ledger <FILE>    The ledger of verdicts, as `afdxmon watch` writes it
-      --manifest <FILE>  The manifest of the run, as `afdxmon watch` writes it
-      --baseline <FILE>  The ledger of an earlier flight, of the same table, to compare with
-      --json             Write the page's numbers as JSON in place of the page
-  -o, --output <FILE>    The page to write, or the JSON text [default: -]
-  -v, --verbose          Tell standard error, whatever it is, what a terminal is told but progress
-  -h, --help             Print help
+      --config <FILE>           The table of virtual links, a TOML document
+      --ledger <FILE>           The ledger of verdicts, as `afdxmon watch` writes it
+      --manifest <FILE>         The manifest of the run, as `afdxmon watch` writes it
+      --baseline <FILE>         The ledger of an earlier flight to compare with
+      --baseline-config <FILE>  The table of that flight, where it was another one
+      --from <TIME>             The first moment of what is told
+      --to <TIME>               The last moment
+      --link <LIST>             The virtual links, as '301-305,42' or 'engine_*'
+      --network <A|B>           The network
+      --json                    Write the page's numbers as JSON in place of the page
+      --csv <FILE>              Write the links too, a row each of comma-separated values
+      --title <TEXT>            The title of the page
+      --fail-on <LEVEL>         End with status 3 where there are findings of trouble, or by 'notice' of notice too
+  -o, --output <FILE>           The page to write, or the JSON text [default: -]
+  -v, --verbose                 Tell standard error, whatever it is, what a terminal is told but progress
+  -h, --help                    Print help
 
 The page is one file without scripts and links. Without -o a terminal is shown the first part as text.
-'-' is standard input, or standard output.
+--from, --to, --link and --network tell of a part of the ledger; they are those of `afdxmon cut`, whose
+--ledger-only writes a ledger's part that is taken too. '-' is standard input, or standard output.
 
 Example: a page on a run, and one that compares it with the flight before
   afdxmon report --config flight.toml --ledger verdicts.ledger -o report.html

@@ -26,6 +26,35 @@ CREATE TABLE IF NOT EXISTS totals (
     PRIMARY KEY (flight, word)
 );
 
+-- What `report` found, of flights that have report.json beside their ledger (`page` writes it). Timestamps are nanoseconds
+-- since 1970. One row for each finding, from the worst on, `number` from 1.
+CREATE TABLE IF NOT EXISTS findings (
+    flight TEXT NOT NULL, number INTEGER NOT NULL, kind TEXT NOT NULL, level TEXT NOT NULL, networks TEXT NOT NULL,
+    first BIGINT NOT NULL, last BIGINT NOT NULL, signs BIGINT NOT NULL, text TEXT NOT NULL,
+    PRIMARY KEY (flight, number)
+);
+
+-- The numbers that a link lost on a network, and when the first and the last one was missed.
+CREATE TABLE IF NOT EXISTS losses (
+    flight TEXT NOT NULL, link INTEGER NOT NULL, network TEXT NOT NULL, lost BIGINT NOT NULL, first BIGINT NOT NULL,
+    last BIGINT NOT NULL,
+    PRIMARY KEY (flight, link, network)
+);
+
+-- The links of the findings absent, outage, stops and stops on: `finding` is its number.
+CREATE TABLE IF NOT EXISTS gaps (
+    flight TEXT NOT NULL, finding INTEGER NOT NULL, kind TEXT NOT NULL, link INTEGER NOT NULL, networks TEXT NOT NULL,
+    first BIGINT NOT NULL, last BIGINT NOT NULL,
+    PRIMARY KEY (flight, finding, link)
+);
+
+-- The silences of networks.
+CREATE TABLE IF NOT EXISTS silences (
+    flight TEXT NOT NULL, finding INTEGER NOT NULL, networks TEXT NOT NULL, first BIGINT NOT NULL, last BIGINT NOT NULL,
+    lost BIGINT NOT NULL,
+    PRIMARY KEY (flight, finding)
+);
+
 -- The lines of frames, of flights that were loaded with --frames.
 CREATE TABLE IF NOT EXISTS frames (
     flight TEXT NOT NULL, nanoseconds BIGINT NOT NULL, network TEXT NOT NULL, number BIGINT NOT NULL, link INTEGER,

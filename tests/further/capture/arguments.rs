@@ -1,6 +1,6 @@
 //! The words of the command line.
 
-use analyser::{CaptureArguments, CommandLine, DebugArguments, FilterArgument, Invocation, WatchArguments, read_arguments};
+use command_line::{CaptureArguments, CommandLine, DebugArguments, FilterArgument, Invocation, WatchArguments, read_arguments};
 use std::alloc::{AllocError, Global};
 use std::test::Fail;
 

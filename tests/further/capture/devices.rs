@@ -4,7 +4,7 @@
 use crate::ending::ends;
 use crate::support::{EVERY, FIRST_RUN, ROOM, SOUND, WIDE, loaded};
 use afdx_frame::Network;
-use analyser::{Output, WatchFault};
+use run_fault::{Output, WatchFault};
 use pcap_io::{Ending, MemSink, MemSource, Script};
 use specified::{capture_one, capture_over};
 use std::alloc::{AllocError, Global};

@@ -2,7 +2,7 @@
 //! instructions, texts of a hundred kilobytes. With ample memory none of them is refused.
 
 use crate::support::{EVERY, HEADER, SOUND};
-use analyser::CaptureRun;
+use capture_run::CaptureRun;
 use pcap_io::{Ending, MemSink, MemSource, Script};
 use specified::run_capture;
 use std::alloc::{AllocError, Global};
