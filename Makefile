@@ -9,7 +9,7 @@
 #   make completions  writes the completions and the synopsis of afdxmon(1), which follow from the program's help
 #   make manuals   writes afdxmon-table(5) and afdxmon-ledger(5), which have the text of docs/TABLE.md and docs/LEDGER.md
 #   make pictures  makes docs/*.png from the flight in examples/ (needs chromium, pngquant, wireshark, xvfb, xdotool, imagemagick,
-#                  python3-pandas and python3-matplotlib)
+#                  python3-pandas and python3-matplotlib; a picture without its tools is skipped)
 #   make bench     beside tcpdump, mergecap and libpcap (needs tcpdump, wireshark-common, libpcap-dev, gcc and python3; not
 #                  part of the gate)
 #

@@ -1,5 +1,5 @@
-"""Tests that what the program advises works: each command of docs/MESSAGES.md and of the advice runs as it stands, and what it
-writes is taken.
+"""Tests that what the program advises works: each command of docs/MESSAGES.md, of docs/FILTERS.md and of the advice runs as it
+stands, and what it writes is taken.
 
 The commands name in.pcap, in.pcap.gz, in.pcap.zst and in.asm. A command whose tool isn't installed is left out.
 """
@@ -10,8 +10,8 @@ import struct
 import subprocess
 import tempfile
 
-import texts
-from harness import EVERY, HERE, PROGRAM, SUCCESS, frame, header, record, run, say
+from tests import texts
+from tests.harness import EVERY, PROGRAM, SUCCESS, TOP, Case, frame, header, read, record, run
 
 FRAMES = [(10, frame(5, 60, 1)), (20, frame(5, 60, 2)), (30, frame(6, 80, 3))]
 WHOLE = header() + b"".join(record(*one) for one in FRAMES)
@@ -20,7 +20,9 @@ TOOLS = ("editcap", "reordercap", "gunzip", "unzstd", "tcpdump", "afdxmon")
 
 # Recordings that are refused or end early, by a word of the command that mends them, and the frames that are to come out.
 BAD = struct.pack("<IIII", 0, 40, 262145, 60) + bytes(60)
+TAG = b"\x81\x00\x00\x05"
 MENDS = (
+    ("-C 12:4", {"in.pcap": header() + b"".join(record(stamp, data[:12] + TAG + data[12:]) for stamp, data in FRAMES)}, FRAMES),
     ("-C -4", {"in.pcap": header(link_type=0x24000001) + b"".join(record(stamp, data + b"fcs.") for stamp, data in FRAMES)}, FRAMES),
     ("1-2", {"in.pcap": header() + b"".join(record(*one) for one in FRAMES[:2]) + BAD}, FRAMES[:2]),
     ("-c 1000000000", {"in.pcap": WHOLE}, FRAMES),
@@ -36,8 +38,8 @@ PACKERS = {"gunzip": ["gzip", "in.pcap"], "unzstd": ["zstd", "-q", "--rm", "in.p
 
 def commands():
     """The commands that the page and the advice show."""
-    with open(os.path.join(HERE, "..", "docs", "MESSAGES.md"), encoding="utf-8") as page:
-        shown = re.findall(r"`([^`]*)`", page.read())
+    pages = (read(TOP, "docs", page).decode() for page in ("MESSAGES.md", "FILTERS.md"))
+    shown = [word for page in pages for word in re.findall(r"`([^`\n]*)`", page)]
     told = [text.format(2) for text in (*texts.ADVICE.values(), *texts.ENDINGS.values())]
     told += [texts.CHECK_SEQUENCES, texts.EXPRESSION, texts.SOURCE, texts.NOT_NUMERIC]
     tool = "|".join(TOOLS)
@@ -105,17 +107,20 @@ def unpacked(packer, suffix):
         return "" if words and (ran.returncode, ran.stdout) == (SUCCESS, expected) else f"{words!r}: {ran.stderr!r}"
 
 
-def cases():
-    for packer, suffix in (("gzip", ".gz"), ("zstd", ".zst"), ("xz", ".xz")):
-        if shutil.which(packer):
-            say(f"advised: a recording that is compressed by {packer}", unpacked(packer, suffix))
-    found = commands()
-    missing = [word for word, _, _ in MENDS if not any(word in command for command in found)]
-    say("each recording that is mended", f"no command has {missing}" if missing else "")
-    for command in found:
-        tool = command.split()[0]
-        if tool != "afdxmon" and not shutil.which(tool):
-            continue
-        fault = compiled(command) if tool in ("tcpdump", "afdxmon") else mended(command)
-        if fault is not None:
-            say(f"advised: {command}", fault)
+class Advised(Case):
+    def test_packers(self):
+        for packer, suffix in (("gzip", ".gz"), ("zstd", ".zst"), ("xz", ".xz")):
+            if shutil.which(packer):
+                self.case(f"advised: a recording that is compressed by {packer}", unpacked(packer, suffix))
+
+    def test_commands(self):
+        found = commands()
+        missing = [word for word, _, _ in MENDS if not any(word in command for command in found)]
+        self.case("each recording that is mended", f"no command has {missing}" if missing else "")
+        for command in found:
+            tool = command.split()[0]
+            if tool != "afdxmon" and not shutil.which(tool):
+                continue
+            fault = compiled(command) if tool in ("tcpdump", "afdxmon") else mended(command)
+            if fault is not None:
+                self.case(f"advised: {command}", fault)

@@ -13,7 +13,7 @@ from collections import defaultdict, namedtuple
 
 sys.path.insert(0, os.path.dirname(os.path.abspath(__file__)))
 sys.dont_write_bytecode = True
-from reference import HEADER, accept_length, parse, program_of, record_of  # noqa: E402
+from tests.reference import HEADER, accept_length, parse, program_of, record_of  # noqa: E402
 
 Frame = namedtuple("Frame", "stamp network number whole data")
 Table = namedtuple("Table", "constant links late filters")

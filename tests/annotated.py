@@ -9,15 +9,14 @@ import random
 import shutil
 import struct
 import subprocess
-import tempfile
 import threading
 
-import pairs
-from analyser import table_of, watch
-from cut import chosen, frame_lines, nothing, recordings_of
-from harness import EVERY, FAULT, FIRST_64, LINK5, ODD, PROGRAM, SUCCESS, TOP, USAGE, difference, frame, header, record, recording, run, say, skip
-from reference import capture, parse
-from watching import TABLE, WORKERS, tap
+from tests import pairs
+from tests.analyser import table_of, watch
+from tests.cut import chosen, frame_lines, nothing, recordings_of
+from tests.harness import EVERY, FAULT, FIRST_64, LINK5, ODD, PROGRAM, SUCCESS, TOP, USAGE, Case, difference, frame, header, record, recording, run
+from tests.reference import capture, parse
+from tests.watching import TABLE, WORKERS, tap
 
 STAGES = ("class", "policing", "integrity", "redundancy")
 OLDER = b"older"
@@ -119,48 +118,6 @@ class Place:
         return run([*words, "--pcapng", *flags], **{"stdin": subprocess.DEVNULL, "stdout": subprocess.PIPE, **how})
 
 
-def captures(place):
-    for layout, unit in (("<", 1), (">", 1), ("<", 1000)):
-        given = recording(2000, layout, unit)
-        for what, code in (("all", EVERY), ("some", LINK5), ("the first 64 bytes", FIRST_64), ("by the last byte", ODD)):
-            ran = run(["capture", "--code", code, "--pcapng"], input=given, stdout=subprocess.PIPE)
-            say(f"pcapng: capture, {len(given)} bytes, {layout}{unit}, {what}", difference(ran, SUCCESS, "", of_recording(given, code)))
-    large = header() + b"".join(record(i, frame(5, size, 1)) for i, size in enumerate([60, 262144, 61, 62, 63, 65536, 65520, 262143, 60]))
-    ran = run(["capture", "--code", EVERY, "--pcapng"], input=large, stdout=subprocess.PIPE)
-    say("pcapng: capture, frames larger than every buffer", difference(ran, SUCCESS, "", of_recording(large, EVERY)))
-    ran = run(["capture", "--code", EVERY, "--pcapng"], input=header(), stdout=subprocess.PIPE)
-    say("pcapng: capture, no packet", difference(ran, SUCCESS, "", head()))
-    place.put(out=OLDER * 100000, given=large)
-    ran = run(["capture", "--code", EVERY, "--pcapng", "-o", place.path("out"), place.path("given")], stdout=subprocess.PIPE)
-    fault = difference(ran, SUCCESS, "", b"") or ("" if place.read("out") == of_recording(large, EVERY) else "the file differs")
-    say("pcapng: capture, over a longer file", fault)
-    ran = run(["capture", "--code", EVERY, place.path("out")], stdout=subprocess.PIPE)
-    say("pcapng: capture reads its own file back", difference(ran, SUCCESS, "", capture(large, EVERY)))
-
-
-def watched(place, name, config, code, a, b, *flags):
-    """A run whose capture has the verdicts, and whose ledger is as ever."""
-    expected = watch(config, code, a, b)
-    place.put(config=config, filter=code, a=a, b=b, capture=OLDER, ledger=OLDER)
-    ran = place.watch(*flags)
-    fault = "" if ran.returncode == SUCCESS else difference(ran, SUCCESS, "")
-    fault = fault or ("" if place.read("ledger") == expected.lines + expected.summary else "the ledger differs")
-    fault = fault or ("" if place.read("capture") == of_watch(expected, config) else "the capture differs")
-    say(f"pcapng: watch, {name}{' ' if flags else ''}{' '.join(flags)}", fault)
-    return expected
-
-
-def runs(place):
-    for seed in range(60):
-        config, code, a, b = pairs.pair(random.Random(seed))
-        watched(place, f"pair {seed}", config, code, a, b, *WORKERS[seed % len(WORKERS)])
-    many = tap(*((i * 10**6, frame(5 + i % 3, 60 + i % 5, i // 3 % 255 + 1)) for i in range(6000)))
-    for flags in WORKERS:
-        watched(place, "6000 frames on both networks", TABLE, EVERY, many, many, *flags)
-    large = tap(*((i, frame(5, size, 1)) for i, size in enumerate([60, 262144, 61, 65536, 65520, 262143, 60])))
-    watched(place, "frames larger than every buffer", TABLE, EVERY, large, large)
-
-
 def flight():
     """The flight of examples: the table, the filter, and the recordings."""
     out = []
@@ -170,95 +127,127 @@ def flight():
     return out[0].decode(), out[1].decode(), out[2], out[3]
 
 
-def cuts(place):
-    config, code, a, b = flight()
-    ledger = watched(place, "the flight of examples", config, code, a, b)
-    ledger = ledger.lines + ledger.summary
-    held = recordings_of(a, b)
-    for options in ({}, {"verdict": "excess,out"}, {"network": "B"}, {"link": "301"}, {"verdict": "excess", "around": "2"}, {"link": "65535"}):
-        lines = chosen(ledger, options, config)
-        packets = [held[line.split()[1]][int(line.split()[2])] for line in lines]
-        words = [word for name, value in options.items() for word in ("--" + name, value)]
-        told = " ".join(words) or "all"
-        note = "" if lines else nothing(ledger, options)
-        say(f"pcapng: cut, {told}", difference(place.cut(*words), SUCCESS, note, annotated(lines, packets, {})))
-        ran = place.cut(*words, "--config", place.path("config"))
-        say(f"pcapng: cut, {told}, with names", difference(ran, SUCCESS, note, annotated(lines, packets, names_of(config))))
+class Annotated(Case):
+    def setUp(self):
+        self.place = Place(self.folder)
 
+    def test_captures(self):
+        for layout, unit in (("<", 1), (">", 1), ("<", 1000)):
+            given = recording(2000, layout, unit)
+            for what, code in (("all", EVERY), ("some", LINK5), ("the first 64 bytes", FIRST_64), ("by the last byte", ODD)):
+                ran = run(["capture", "--code", code, "--pcapng"], input=given, stdout=subprocess.PIPE)
+                self.case(f"pcapng: capture, {len(given)} bytes, {layout}{unit}, {what}", difference(ran, SUCCESS, "", of_recording(given, code)))
+        large = header() + b"".join(record(i, frame(5, size, 1)) for i, size in enumerate([60, 262144, 61, 62, 63, 65536, 65520, 262143, 60]))
+        ran = run(["capture", "--code", EVERY, "--pcapng"], input=large, stdout=subprocess.PIPE)
+        self.case("pcapng: capture, frames larger than every buffer", difference(ran, SUCCESS, "", of_recording(large, EVERY)))
+        ran = run(["capture", "--code", EVERY, "--pcapng"], input=header(), stdout=subprocess.PIPE)
+        self.case("pcapng: capture, no packet", difference(ran, SUCCESS, "", head()))
+        self.place.put(out=OLDER * 100000, given=large)
+        ran = run(["capture", "--code", EVERY, "--pcapng", "-o", self.place.path("out"), self.place.path("given")], stdout=subprocess.PIPE)
+        fault = difference(ran, SUCCESS, "", b"") or ("" if self.place.read("out") == of_recording(large, EVERY) else "the file differs")
+        self.case("pcapng: capture, over a longer file", fault)
+        ran = run(["capture", "--code", EVERY, self.place.path("out")], stdout=subprocess.PIPE)
+        self.case("pcapng: capture reads its own file back", difference(ran, SUCCESS, "", capture(large, EVERY)))
 
-def faults(place):
-    """Devices that fail, and arguments that don't go together."""
-    given = tap(*((i * 10**6, frame(5, 196, i % 255 + 1)) for i in range(1000)))
-    for name, tapped in (("a full disk", given), ("a full disk, found at the flush", tap((0, frame(5, 60, 1))))):
-        place.put(config=TABLE, filter=EVERY, a=tapped, b=tapped, given=tapped)
-        ran = place.watch(ledger=place.path("ledger"))
-        say(f"pcapng: watch before {name}", difference(ran, SUCCESS, ""))
-        say(f"pcapng: cut, {name}", difference(place.cut("-o", "/dev/full"), FAULT, WRITE["cut"], b""))
-        ran = run(["capture", "--code", EVERY, "--pcapng", "-o", "/dev/full", place.path("given")], stdout=subprocess.PIPE)
-        say(f"pcapng: capture, {name}", difference(ran, FAULT, lambda told: told.startswith("afdxmon: ") and "rite" in told, b""))
-        say(f"pcapng: watch, {name}", difference(place.watch(capture="/dev/full"), FAULT, WRITE["watch"], b""))
-    closed_pipe(place, given)
-    place.put(capture=OLDER)
-    words = ["watch", *(word for name in ("config", "filter", "a", "b", "ledger") for word in ("--" + name, place.path(name)))]
-    say("pcapng: watch without --capture", difference(run([*words, "--pcapng"], stdout=subprocess.PIPE), USAGE, lambda told: "--pcapng" in told, b""))
-    say("pcapng: cut --ledger-only", difference(place.cut("--ledger-only"), USAGE, lambda told: "--pcapng" in told, b""))
+    def watched(self, name, config, code, a, b, *flags):
+        """A run whose capture has the verdicts, and whose ledger is as ever."""
+        expected = watch(config, code, a, b)
+        self.place.put(config=config, filter=code, a=a, b=b, capture=OLDER, ledger=OLDER)
+        ran = self.place.watch(*flags)
+        fault = "" if ran.returncode == SUCCESS else difference(ran, SUCCESS, "")
+        fault = fault or ("" if self.place.read("ledger") == expected.lines + expected.summary else "the ledger differs")
+        fault = fault or ("" if self.place.read("capture") == of_watch(expected, config) else "the capture differs")
+        self.case(f"pcapng: watch, {name}{' ' if flags else ''}{' '.join(flags)}", fault)
+        return expected
 
+    def test_runs(self):
+        for seed in range(60):
+            config, code, a, b = pairs.pair(random.Random(seed))
+            self.watched(f"pair {seed}", config, code, a, b, *WORKERS[seed % len(WORKERS)])
+        many = tap(*((i * 10**6, frame(5 + i % 3, 60 + i % 5, i // 3 % 255 + 1)) for i in range(6000)))
+        for flags in WORKERS:
+            self.watched("6000 frames on both networks", TABLE, EVERY, many, many, *flags)
+        large = tap(*((i, frame(5, size, 1)) for i, size in enumerate([60, 262144, 61, 65536, 65520, 262143, 60])))
+        self.watched("frames larger than every buffer", TABLE, EVERY, large, large)
 
-def closed_pipe(place, given):
-    """The capture is a pipe whose reader takes some bytes and leaves."""
-    pipe = place.path("pipe")
-    os.mkfifo(pipe)
-    place.put(config=TABLE, filter=EVERY, a=given, b=given)
-    words = ["watch", *(word for name in ("config", "filter", "a", "b", "ledger") for word in ("--" + name, place.path(name)))]
-    child = subprocess.Popen([PROGRAM, *words, "--capture", pipe, "--pcapng"], stdin=subprocess.DEVNULL, stdout=subprocess.PIPE, stderr=subprocess.PIPE)
-    with open(pipe, "rb", buffering=0) as reader:
-        taken = reader.read(1000)
-    out, told = child.communicate(timeout=60)
-    fault = difference(subprocess.CompletedProcess([], child.returncode, out, told), FAULT, WRITE["watch"], b"")
-    expected = of_watch(watch(TABLE, EVERY, given, given), TABLE)
-    say("pcapng: watch, a closed pipe", fault or ("" if expected.startswith(taken) else "what came is no prefix"))
-    os.remove(pipe)
+    def test_cuts(self):
+        config, code, a, b = flight()
+        ledger = self.watched("the flight of examples", config, code, a, b)
+        ledger = ledger.lines + ledger.summary
+        held = recordings_of(a, b)
+        for options in ({}, {"verdict": "excess,out"}, {"network": "B"}, {"link": "301"}, {"verdict": "excess", "around": "2"}, {"link": "65535"}):
+            lines = chosen(ledger, options, config)
+            packets = [held[line.split()[1]][int(line.split()[2])] for line in lines]
+            words = [word for name, value in options.items() for word in ("--" + name, value)]
+            told = " ".join(words) or "all"
+            note = "" if lines else nothing(ledger, options)
+            self.case(f"pcapng: cut, {told}", difference(self.place.cut(*words), SUCCESS, note, annotated(lines, packets, {})))
+            ran = self.place.cut(*words, "--config", self.place.path("config"))
+            self.case(f"pcapng: cut, {told}, with names", difference(ran, SUCCESS, note, annotated(lines, packets, names_of(config))))
 
+    def test_faults(self):
+        """Devices that fail, and arguments that don't go together."""
+        given = tap(*((i * 10**6, frame(5, 196, i % 255 + 1)) for i in range(1000)))
+        for name, tapped in (("a full disk", given), ("a full disk, found at the flush", tap((0, frame(5, 60, 1))))):
+            self.place.put(config=TABLE, filter=EVERY, a=tapped, b=tapped, given=tapped)
+            ran = self.place.watch(ledger=self.place.path("ledger"))
+            self.case(f"pcapng: watch before {name}", difference(ran, SUCCESS, ""))
+            self.case(f"pcapng: cut, {name}", difference(self.place.cut("-o", "/dev/full"), FAULT, WRITE["cut"], b""))
+            ran = run(["capture", "--code", EVERY, "--pcapng", "-o", "/dev/full", self.place.path("given")], stdout=subprocess.PIPE)
+            self.case(f"pcapng: capture, {name}", difference(ran, FAULT, lambda told: told.startswith("afdxmon: ") and "rite" in told, b""))
+            self.case(f"pcapng: watch, {name}", difference(self.place.watch(capture="/dev/full"), FAULT, WRITE["watch"], b""))
+        self.closed_pipe(given)
+        self.place.put(capture=OLDER)
+        words = ["watch", *(word for name in ("config", "filter", "a", "b", "ledger") for word in ("--" + name, self.place.path(name)))]
+        self.case("pcapng: watch without --capture", difference(run([*words, "--pcapng"], stdout=subprocess.PIPE), USAGE, lambda told: "--pcapng" in told, b""))
+        self.case("pcapng: cut --ledger-only", difference(self.place.cut("--ledger-only"), USAGE, lambda told: "--pcapng" in told, b""))
 
-def live(place):
-    """Packets of a pipe that pauses can be seen with their verdicts."""
-    first = header() + record(10**18, frame(5, 60, 1))
-    pipe = place.path("live")
-    os.mkfifo(pipe)
-    place.put(config=TABLE, filter=EVERY, b=tap())
-    words = ["watch", *(word for name in ("config", "filter", "b", "ledger") for word in ("--" + name, place.path(name)))]
-    child = subprocess.Popen([PROGRAM, *words, "--a", pipe, "--capture", "-", "--pcapng"], stdin=subprocess.DEVNULL, stdout=subprocess.PIPE, stderr=subprocess.DEVNULL)
-    expected = of_watch(watch(TABLE, EVERY, first, tap()), TABLE)
-    late = threading.Timer(30, child.kill)
-    late.start()
-    with open(pipe, "wb", buffering=0) as writer:
-        writer.write(first)
-        seen = child.stdout.read(len(expected))
-    rest = child.stdout.read()
-    child.wait()
-    late.cancel()
-    os.remove(pipe)
-    say("pcapng: watch, a pipe that pauses", "" if seen + rest == expected else "what was seen differs")
+    def closed_pipe(self, given):
+        """The capture is a pipe whose reader takes some bytes and leaves."""
+        pipe = self.place.path("pipe")
+        os.mkfifo(pipe)
+        self.place.put(config=TABLE, filter=EVERY, a=given, b=given)
+        words = ["watch", *(word for name in ("config", "filter", "a", "b", "ledger") for word in ("--" + name, self.place.path(name)))]
+        child = subprocess.Popen([PROGRAM, *words, "--capture", pipe, "--pcapng"], stdin=subprocess.DEVNULL, stdout=subprocess.PIPE, stderr=subprocess.PIPE)
+        with open(pipe, "rb", buffering=0) as reader:
+            taken = reader.read(1000)
+        out, told = child.communicate(timeout=60)
+        fault = difference(subprocess.CompletedProcess([], child.returncode, out, told), FAULT, WRITE["watch"], b"")
+        expected = of_watch(watch(TABLE, EVERY, given, given), TABLE)
+        self.case("pcapng: watch, a closed pipe", fault or ("" if expected.startswith(taken) else "what came is no prefix"))
+        os.remove(pipe)
 
+    def test_live(self):
+        """Packets of a pipe that pauses can be seen with their verdicts."""
+        first = header() + record(10**18, frame(5, 60, 1))
+        pipe = self.place.path("live")
+        os.mkfifo(pipe)
+        self.place.put(config=TABLE, filter=EVERY, b=tap())
+        words = ["watch", *(word for name in ("config", "filter", "b", "ledger") for word in ("--" + name, self.place.path(name)))]
+        child = subprocess.Popen([PROGRAM, *words, "--a", pipe, "--capture", "-", "--pcapng"], stdin=subprocess.DEVNULL, stdout=subprocess.PIPE, stderr=subprocess.DEVNULL)
+        expected = of_watch(watch(TABLE, EVERY, first, tap()), TABLE)
+        late = threading.Timer(30, child.kill)
+        late.start()
+        with open(pipe, "wb", buffering=0) as writer:
+            writer.write(first)
+            seen = child.stdout.read(len(expected))
+        rest = child.stdout.read()
+        child.wait()
+        late.cancel()
+        os.remove(pipe)
+        self.case("pcapng: watch, a pipe that pauses", "" if seen + rest == expected else "what was seen differs")
 
-def by_tshark(place):
-    """An independent reader shows the comments and the names of the interfaces."""
-    name = "pcapng: tshark reads comments and interfaces"
-    if not shutil.which("tshark"):
-        return skip(name, "tshark isn't installed")
-    config, code, a, b = flight()
-    expected = watch(config, code, a, b)
-    place.put(config=config, filter=code, a=a, b=b)
-    place.watch()
-    ran = subprocess.run(["tshark", "-r", place.path("capture"), "-T", "fields", "-e", "frame.comment", "-e", "frame.interface_name"], capture_output=True, timeout=120)
-    kept = [line for line in frame_lines(expected.lines) if line.split()[9] != "-"]
-    names = names_of(config)
-    lines = "".join(f"{comment_of(line, names)}\t{line.split()[1]}\n" for line in kept)
-    say(name, "" if ran.stdout.decode() == lines else f"it shows {ran.stdout[:200]!r}; {ran.stderr[:200]!r}")
-
-
-def cases():
-    with tempfile.TemporaryDirectory() as directory:
-        place = Place(directory)
-        for part in (captures, runs, cuts, faults, live, by_tshark):
-            part(place)
+    def test_by_tshark(self):
+        """An independent reader shows the comments and the names of the interfaces."""
+        name = "pcapng: tshark reads comments and interfaces"
+        if not shutil.which("tshark"):
+            return self.skip(name, "tshark isn't installed")
+        config, code, a, b = flight()
+        expected = watch(config, code, a, b)
+        self.place.put(config=config, filter=code, a=a, b=b)
+        self.place.watch()
+        ran = subprocess.run(["tshark", "-r", self.place.path("capture"), "-T", "fields", "-e", "frame.comment", "-e", "frame.interface_name"], capture_output=True, timeout=120)
+        kept = [line for line in frame_lines(expected.lines) if line.split()[9] != "-"]
+        names = names_of(config)
+        lines = "".join(f"{comment_of(line, names)}\t{line.split()[1]}\n" for line in kept)
+        self.case(name, "" if ran.stdout.decode() == lines else f"it shows {ran.stdout[:200]!r}; {ran.stderr[:200]!r}")

@@ -1,9 +1,9 @@
 """Tests of `afdxmon asm` as a program: each mnemonic with each form of operand, whole filters, and faults."""
 import subprocess
 
-from harness import FAULT, SUCCESS
-from harness import judge, run
-from texts import FULL
+from tests.harness import FAULT, SUCCESS, Case
+from tests.harness import run
+from tests.texts import FULL
 
 # Each form as one statement, and its word as Linux's bpf_asm prints it. `then` is 2 statements farther than the next,
 # `else` 3.
@@ -71,23 +71,25 @@ FAULTS = (
 )
 
 
-def assembled(name, source, status, line, out):
-    judge(name, run(["asm"], input=source.encode(), stdout=subprocess.PIPE), status, line, out.encode())
+class Assembling(Case):
+    def assembled(self, name, source, status, line, out):
+        self.judge(name, run(["asm"], input=source.encode(), stdout=subprocess.PIPE), status, line, out.encode())
 
+    def test_full_disks(self):
+        """Of a form that fits into what is handed over at once, and of one that doesn't."""
+        for name, source in (("a filter", "ret #0\n"), ("a filter of 4096 instructions", "ld #4294967295\n" * 4095 + "ret #0\n")):
+            with open("/dev/full", "wb") as full:
+                ran = run(["asm", "-v"], input=source.encode(), stdout=full)
+            self.judge(f"asm: {name} on a full disk", ran, FAULT, f"afdxmon: file -\nstandard output: {FULL}")
 
-def full_disks():
-    """Of a form that fits into what is handed over at once, and of one that doesn't."""
-    for name, source in (("a filter", "ret #0\n"), ("a filter of 4096 instructions", "ld #4294967295\n" * 4095 + "ret #0\n")):
-        with open("/dev/full", "wb") as full:
-            ran = run(["asm", "-v"], input=source.encode(), stdout=full)
-        judge(f"asm: {name} on a full disk", ran, FAULT, f"afdxmon: file -\nstandard output: {FULL}")
+    def test_statements(self):
+        for statement, word in FORMS:
+            self.assembled(f"the statement {statement}", statement + TAIL, SUCCESS, "", f"5,{word},{TAIL_FORM}\n")
 
+    def test_filters(self):
+        for name, source, form in FILTERS:
+            self.assembled(f"asm: {name}", source, SUCCESS, "", form + "\n")
 
-def cases():
-    full_disks()
-    for statement, word in FORMS:
-        assembled(f"the statement {statement}", statement + TAIL, SUCCESS, "", f"5,{word},{TAIL_FORM}\n")
-    for name, source, form in FILTERS:
-        assembled(f"asm: {name}", source, SUCCESS, "", form + "\n")
-    for source, fault in FAULTS:
-        assembled(f"asm: the fault {fault} of {source[:40]!r}", source, FAULT, f"afdxmon: asm {fault}", "")
+    def test_faults(self):
+        for source, fault in FAULTS:
+            self.assembled(f"asm: the fault {fault} of {source[:40]!r}", source, FAULT, f"afdxmon: asm {fault}", "")

@@ -10,12 +10,11 @@ import os
 import pty
 import re
 import subprocess
-import tempfile
 from fractions import Fraction
 
-from harness import FAULT, PROGRAM, SUCCESS, ended, frame, run, run_at_terminal, say
-from report import ledger_in, table_of
-from texts import advice_on
+from tests.harness import FAULT, PROGRAM, SUCCESS, Case, ended, frame, run, run_at_terminal
+from tests.report import ledger_in, table_of
+from tests.texts import advice_on
 
 COUNTS = ["lost_both", "excess", "toolong", "late", "lost", "out", "alone", "repeat", "reset"]
 SENTENCES = {"lost_copies": "Lost its copies since the baseline", "new": "New since the baseline", "silent": "Silent since the baseline",
@@ -306,187 +305,163 @@ def text_of(row):
     return f"worse    {row['id']:>5} {row['name']} {' '.join(rates + words)}"
 
 
-# ---- cases
+class Baseline(Case):
+    def judged(self, name, links, today, before, worse):
+        """A case: what got worse by the rule, as it is said here, and the JSON, the page and the text by the slow comparison."""
+        flights = Flights(self.folder, links, today, before)
+        if worse is not None:
+            self.case(f"baseline: {name}: the slow comparison", "" if flights.worse == worse else f"{flights.worse} in place of {worse}")
+        self.case(f"baseline: {name}: JSON", flights.json_fault())
+        self.case(f"baseline: {name}: page", flights.page_fault())
+        self.case(f"baseline: {name}: text", flights.text_fault())
+        return flights
 
-def judged(folder, name, links, today, before, worse):
-    """A case: what got worse by the rule, as it is said here, and the JSON, the page and the text by the slow comparison."""
-    flights = Flights(folder, links, today, before)
-    if worse is not None:
-        say(f"baseline: {name}: the slow comparison", "" if flights.worse == worse else f"{flights.worse} in place of {worse}")
-    say(f"baseline: {name}: JSON", flights.json_fault())
-    say(f"baseline: {name}: page", flights.page_fault())
-    say(f"baseline: {name}: text", flights.text_fault())
-    return flights
+    def test_planted(self):
+        """Links that are lost, new and silent, and counts at the bounds of the rule, in flights of one length."""
+        links = [link(n) for n in range(10, 20)] + [link(20, redundancy=False)]
+        before = flight(links, 300, too_long={13: 1, 14: 1, 15: 5, 16: 5, 17: 0}, late={19: 2}, absent={11})
+        today = flight(links, 300, too_long={13: 3, 14: 4, 15: 10, 16: 11, 17: 3}, missing={18: 4}, late={19: 9}, absent={12}, alone={10, 20}, outside=3)
+        worse = {10: ["lost_copies", "alone"], 11: ["new"], 12: ["silent"], 14: ["toolong"], 16: ["toolong"], 17: ["toolong"],
+                 18: ["lost_both", "lost"], 19: ["late"]}
+        flights = self.judged("planted changes", links, today, before, worse)
+        same = Flights.__new__(Flights)
+        same.__dict__.update(flights.__dict__, before=flights.today, command=[*flights.command[:6], flights.today])
+        same.reference = compared(links, reference(flights.table, flights.today), reference(flights.table, flights.today))
+        same.worse = {row["id"]: row["worse"] for row in same.reference["links"] if row["worse"]}
+        self.case("baseline: the same ledger twice: nothing got worse", "" if same.worse == {} else f"{same.worse}")
+        self.case("baseline: the same ledger twice: JSON", same.json_fault())
+        self.case("baseline: the same ledger twice: page", same.page_fault())
+        self.case("baseline: the same ledger twice: text", same.text_fault())
 
+    def test_each_way(self):
+        """Each way in which a link gets worse is told."""
+        links = [link(n) for n in range(20, 30)]
+        before = flight(links, 300, absent={21})
+        today = flight(links, 300, alone={20}, absent={22}, missing={23: 5}, again={24: (6, 100_000), 25: (6, 1_500_000)}, too_long={26: 4},
+                       late={27: 4}, reset={28: 5})
+        flights = self.judged("each way", links, today, before, None)
+        told = {word for worse in flights.worse.values() for word in worse}
+        self.case("baseline: each way is told", "" if told == set(SENTENCES) else f"{sorted(set(SENTENCES) - told)} aren't")
 
-def planted(folder):
-    """Links that are lost, new and silent, and counts at the bounds of the rule, in flights of one length."""
-    links = [link(n) for n in range(10, 20)] + [link(20, redundancy=False)]
-    before = flight(links, 300, too_long={13: 1, 14: 1, 15: 5, 16: 5, 17: 0}, late={19: 2}, absent={11})
-    today = flight(links, 300, too_long={13: 3, 14: 4, 15: 10, 16: 11, 17: 3}, missing={18: 4}, late={19: 9}, absent={12}, alone={10, 20}, outside=3)
-    worse = {10: ["lost_copies", "alone"], 11: ["new"], 12: ["silent"], 14: ["toolong"], 16: ["toolong"], 17: ["toolong"],
-             18: ["lost_both", "lost"], 19: ["late"]}
-    flights = judged(folder, "planted changes", links, today, before, worse)
-    same = Flights.__new__(Flights)
-    same.__dict__.update(flights.__dict__, before=flights.today, command=[*flights.command[:6], flights.today])
-    same.reference = compared(links, reference(flights.table, flights.today), reference(flights.table, flights.today))
-    same.worse = {row["id"]: row["worse"] for row in same.reference["links"] if row["worse"]}
-    say("baseline: the same ledger twice: nothing got worse", "" if same.worse == {} else f"{same.worse}")
-    say("baseline: the same ledger twice: JSON", same.json_fault())
-    say("baseline: the same ledger twice: page", same.page_fault())
-    say("baseline: the same ledger twice: text", same.text_fault())
+    def test_lengths(self):
+        """Flights of different lengths: what is as common gets no worse, and what is just over twice as common does."""
+        links = [link(n) for n in range(30, 36)]
+        short, double = {30: 5, 31: 5, 32: 5, 33: 1, 34: 10, 35: 10}, {30: 10, 31: 20, 32: 21, 33: 3, 34: 20, 35: 40}
+        self.judged("a flight that is twice as long", links, flight(links, 300, too_long=double), flight(links, 150, too_long=short),
+               {32: ["toolong"]})
+        self.judged("a baseline that is twice as long", links, flight(links, 150, too_long={30: 10, 31: 13, 32: 12, 33: 5, 34: 12, 35: 10}),
+               flight(links, 300, too_long={30: 10, 31: 10, 32: 10, 33: 5, 34: 9, 35: 20}), {31: ["toolong"], 34: ["toolong"]})
 
+    def test_empty(self):
+        """A flight without a frame, and many links."""
+        links = [link(n) for n in range(40, 42)]
+        frames, none = flight(links, 20), {"A": [], "B": []}
+        self.judged("a baseline without a frame", links, frames, none, {40: ["new"], 41: ["new"]})
+        self.judged("no frame today", links, none, frames, {40: ["silent"], 41: ["silent"]})
+        self.judged("no frame in either flight", links, none, none, {})
+        links = [link(n) for n in range(100, 190)]
+        self.judged("90 links that are new", links, flight(links, 3), flight(links, 3, absent=range(110, 190)), None)
 
-def each_way(folder):
-    """Each way in which a link gets worse is told."""
-    links = [link(n) for n in range(20, 30)]
-    before = flight(links, 300, absent={21})
-    today = flight(links, 300, alone={20}, absent={22}, missing={23: 5}, again={24: (6, 100_000), 25: (6, 1_500_000)}, too_long={26: 4},
-                   late={27: 4}, reset={28: 5})
-    flights = judged(folder, "each way", links, today, before, None)
-    told = {word for worse in flights.worse.values() for word in worse}
-    say("baseline: each way is told", "" if told == set(SENTENCES) else f"{sorted(set(SENTENCES) - told)} aren't")
+    def test_other_rates(self):
+        """A rate that is halved, one that is a quarter less, skews tenfold and by a little, and a count that fell: none got worse."""
+        def taps(rows):
+            made = {"A": [], "B": []}
+            for place, (number, (period, skew, too_long)) in enumerate(rows.items()):
+                for i in range(1200 // period):
+                    size = 140 if i % 3 == 1 and i // 3 < too_long else 80
+                    made["A"].append((i * period * MS + place * 7000, frame(number, size, i % 255 + 1)))
+                    made["B"].append((i * period * MS + place * 7000 + skew, frame(number, 80, i % 255 + 1)))
+            return {n: sorted(made[n], key=lambda one: one[0]) for n in "AB"}
 
+        links = [link(n) for n in range(60, 66)]
+        before = {60: (4, 3000, 0), 61: (5, 3000, 0), 62: (4, 3000, 0), 63: (4, 3000, 0), 64: (4, 3000, 8), 65: (4, 3000, 0)}
+        today = {60: (8, 3000, 0), 61: (6, 3000, 0), 62: (4, 30_000, 0), 63: (4, 9000, 0), 64: (4, 3000, 2), 65: (4, 3000, 0)}
+        flights = self.judged("other rates and skews", links, taps(today), taps(before), {})
+        told = {row["id"]: row["changed"] for row in flights.reference["links"]}
+        self.case("baseline: other rates and skews: what is told", "" if told == {60: ["rate"], 61: [], 62: ["skew"], 63: [], 64: ["toolong"], 65: []} else f"{told}")
 
-def lengths(folder):
-    """Flights of different lengths: what is as common gets no worse, and what is just over twice as common does."""
-    links = [link(n) for n in range(30, 36)]
-    short, double = {30: 5, 31: 5, 32: 5, 33: 1, 34: 10, 35: 10}, {30: 10, 31: 20, 32: 21, 33: 3, 34: 20, 35: 40}
-    judged(folder, "a flight that is twice as long", links, flight(links, 300, too_long=double), flight(links, 150, too_long=short),
-           {32: ["toolong"]})
-    judged(folder, "a baseline that is twice as long", links, flight(links, 150, too_long={30: 10, 31: 13, 32: 12, 33: 5, 34: 12, 35: 10}),
-           flight(links, 300, too_long={30: 10, 31: 10, 32: 10, 33: 5, 34: 9, 35: 20}), {31: ["toolong"], 34: ["toolong"]})
+    def test_revisions(self):
+        """The baseline has another table: a link is added, one removed, one renamed, one changed, and the rest is compared by identifier."""
+        olds = [link(70), link(71), link(72), link(73)]
+        news = [link(70), link(71, name="other"), link(72, bag_ms=2, skew_us=2000), link(74)]
+        paths = {}
+        for name, links, more in (("old", olds, {}), ("new", news, {"too_long": {70: 9}})):
+            own = os.path.join(self.folder, name)
+            os.makedirs(own, exist_ok=True)
+            paths[name] = ledger_in(own, table_of(links), flight(links, 200, **more))[:2]
+        command = ["report", "--config", paths["new"][0], "--ledger", paths["new"][1], "--baseline", paths["old"][1]]
+        whole = [*command, "--baseline-config", paths["old"][0]]
+        ran = run([*whole, "--json"], stdout=subprocess.PIPE)
+        told = json.loads(ran.stdout)["baseline"] if ran.returncode == SUCCESS else {}
+        wanted = {"added": [{"id": 74, "name": "link_74", "before": None, "keys": []}], "removed": [{"id": 73, "name": None, "before": "link_73", "keys": []}],
+                  "renamed": [{"id": 71, "name": "other", "before": "link_71", "keys": []}],
+                  "changed": [{"id": 72, "name": "link_72", "before": "link_72", "keys": ["bag_ms", "skew_us"]}]}
+        self.case("baseline: of another table: what differs", "" if told.get("table") == wanted else f"{ran.stderr!r} {told.get('table')}")
+        worse = {one["id"]: one["worse"] for one in told.get("links", [])}
+        self.case("baseline: of another table: links by identifier", "" if worse == {70: ["toolong"], 71: [], 72: [], 74: ["new"]} else f"{worse}")
+        new = [(one["kind"], one["links"]) for one in told["findings"]["new"]]
+        self.case("baseline: of another table: the finding that is new", "" if ("toolong", [70]) in new else f"{new}")
+        page = run(whole, stdout=subprocess.PIPE).stdout.decode("ascii")
+        lines = ["Links of the table added: 74 link_74<", "Links of the table removed: 73 link_73<", "Links of the table renamed: 71 other<",
+                 "Links of the table changed: 72 link_72<"]
+        self.case("baseline: of another table: page", "" if all(line in page for line in lines) else "a line is missing")
+        ran = run([*command, "--json"], stdout=subprocess.PIPE)
+        self.case("baseline: of another table that isn't given", "" if ran.returncode == FAULT and ran.stderr.startswith(b"afdxmon: report 6 Baseline 2 Contradiction")
+            else f"{ran.returncode} {ran.stderr!r}")
+        wrong = os.path.join(self.folder, "wrong.toml")
+        with open(wrong, "w", encoding="ascii") as out:
+            out.write("constant = 1\n")
+        ran = run([*command, "--baseline-config", wrong], stdout=subprocess.PIPE)
+        self.case("baseline: a table of it that isn't one", "" if (ran.returncode, ran.stderr) == (FAULT, b"afdxmon: file --baseline-config\n") else f"{ran.stderr!r}")
 
+    def test_faults(self):
+        """A baseline that isn't one, and files that are one."""
+        links = [link(50)]
+        flights = Flights(self.folder, links, flight(links, 20), flight(links, 20))
+        with open(flights.before, encoding="ascii") as file:
+            lines = file.read().splitlines(True)
+        changed = os.path.join(self.folder, "changed.ledger")
+        output = os.path.join(self.folder, "page.html")
 
-def empty(folder):
-    """A flight without a frame, and many links."""
-    links = [link(n) for n in range(40, 42)]
-    frames, none = flight(links, 20), {"A": [], "B": []}
-    judged(folder, "a baseline without a frame", links, frames, none, {40: ["new"], 41: ["new"]})
-    judged(folder, "no frame today", links, none, frames, {40: ["silent"], 41: ["silent"]})
-    judged(folder, "no frame in either flight", links, none, none, {})
-    links = [link(n) for n in range(100, 190)]
-    judged(folder, "90 links that are new", links, flight(links, 3), flight(links, 3, absent=range(110, 190)), None)
+        def refused(name, arguments, status, line):
+            ran = run([*flights.command[:5], *arguments], stdout=subprocess.PIPE)
+            want = f"afdxmon: {line}\n".encode()
+            self.case(f"baseline: {name}", "" if (ran.returncode, ran.stderr, ran.stdout) == (status, want, b"") else
+                f"status {ran.returncode}, {ran.stderr!r} in place of {want!r}")
 
+        def with_line(at, old, new, line):
+            mine = list(lines)
+            mine[at] = mine[at].replace(old, new, 1)
+            with open(changed, "w", encoding="ascii") as file:
+                file.write("".join(mine))
+            refused(f"a baseline with {new!r} in line {at + 1}", ["--baseline", changed], FAULT, line)
 
-def other_rates(folder):
-    """A rate that is halved, one that is a quarter less, skews tenfold and by a little, and a count that fell: none got worse."""
-    def taps(rows):
-        made = {"A": [], "B": []}
-        for place, (number, (period, skew, too_long)) in enumerate(rows.items()):
-            for i in range(1200 // period):
-                size = 140 if i % 3 == 1 and i // 3 < too_long else 80
-                made["A"].append((i * period * MS + place * 7000, frame(number, size, i % 255 + 1)))
-                made["B"].append((i * period * MS + place * 7000 + skew, frame(number, 80, i % 255 + 1)))
-        return {n: sorted(made[n], key=lambda one: one[0]) for n in "AB"}
-
-    links = [link(n) for n in range(60, 66)]
-    before = {60: (4, 3000, 0), 61: (5, 3000, 0), 62: (4, 3000, 0), 63: (4, 3000, 0), 64: (4, 3000, 8), 65: (4, 3000, 0)}
-    today = {60: (8, 3000, 0), 61: (6, 3000, 0), 62: (4, 30_000, 0), 63: (4, 9000, 0), 64: (4, 3000, 2), 65: (4, 3000, 0)}
-    flights = judged(folder, "other rates and skews", links, taps(today), taps(before), {})
-    told = {row["id"]: row["changed"] for row in flights.reference["links"]}
-    say("baseline: other rates and skews: what is told", "" if told == {60: ["rate"], 61: [], 62: ["skew"], 63: [], 64: ["toolong"], 65: []} else f"{told}")
-
-
-def revisions(folder):
-    """The baseline has another table: a link is added, one removed, one renamed, one changed, and the rest is compared by identifier."""
-    olds = [link(70), link(71), link(72), link(73)]
-    news = [link(70), link(71, name="other"), link(72, bag_ms=2, skew_us=2000), link(74)]
-    paths = {}
-    for name, links, more in (("old", olds, {}), ("new", news, {"too_long": {70: 9}})):
-        own = os.path.join(folder, name)
-        os.makedirs(own, exist_ok=True)
-        paths[name] = ledger_in(own, table_of(links), flight(links, 200, **more))[:2]
-    command = ["report", "--config", paths["new"][0], "--ledger", paths["new"][1], "--baseline", paths["old"][1]]
-    whole = [*command, "--baseline-config", paths["old"][0]]
-    ran = run([*whole, "--json"], stdout=subprocess.PIPE)
-    told = json.loads(ran.stdout)["baseline"] if ran.returncode == SUCCESS else {}
-    wanted = {"added": [{"id": 74, "name": "link_74", "before": None, "keys": []}], "removed": [{"id": 73, "name": None, "before": "link_73", "keys": []}],
-              "renamed": [{"id": 71, "name": "other", "before": "link_71", "keys": []}],
-              "changed": [{"id": 72, "name": "link_72", "before": "link_72", "keys": ["bag_ms", "skew_us"]}]}
-    say("baseline: of another table: what differs", "" if told.get("table") == wanted else f"{ran.stderr!r} {told.get('table')}")
-    worse = {one["id"]: one["worse"] for one in told.get("links", [])}
-    say("baseline: of another table: links by identifier", "" if worse == {70: ["toolong"], 71: [], 72: [], 74: ["new"]} else f"{worse}")
-    new = [(one["kind"], one["links"]) for one in told["findings"]["new"]]
-    say("baseline: of another table: the finding that is new", "" if ("toolong", [70]) in new else f"{new}")
-    page = run(whole, stdout=subprocess.PIPE).stdout.decode("ascii")
-    lines = ["Links of the table added: 74 link_74<", "Links of the table removed: 73 link_73<", "Links of the table renamed: 71 other<",
-             "Links of the table changed: 72 link_72<"]
-    say("baseline: of another table: page", "" if all(line in page for line in lines) else "a line is missing")
-    ran = run([*command, "--json"], stdout=subprocess.PIPE)
-    say("baseline: of another table that isn't given", "" if ran.returncode == FAULT and ran.stderr.startswith(b"afdxmon: report 6 Baseline 2 Contradiction")
-        else f"{ran.returncode} {ran.stderr!r}")
-    wrong = os.path.join(folder, "wrong.toml")
-    with open(wrong, "w", encoding="ascii") as out:
-        out.write("constant = 1\n")
-    ran = run([*command, "--baseline-config", wrong], stdout=subprocess.PIPE)
-    say("baseline: a table of it that isn't one", "" if (ran.returncode, ran.stderr) == (FAULT, b"afdxmon: file --baseline-config\n") else f"{ran.stderr!r}")
-
-
-def faults(folder):
-    """A baseline that isn't one, and files that are one."""
-    links = [link(50)]
-    flights = Flights(folder, links, flight(links, 20), flight(links, 20))
-    with open(flights.before, encoding="ascii") as file:
-        lines = file.read().splitlines(True)
-    changed = os.path.join(folder, "changed.ledger")
-    output = os.path.join(folder, "page.html")
-
-    def refused(name, arguments, status, line):
-        ran = run([*flights.command[:5], *arguments], stdout=subprocess.PIPE)
-        want = f"afdxmon: {line}\n".encode()
-        say(f"baseline: {name}", "" if (ran.returncode, ran.stderr, ran.stdout) == (status, want, b"") else
-            f"status {ran.returncode}, {ran.stderr!r} in place of {want!r}")
-
-    def with_line(at, old, new, line):
-        mine = list(lines)
-        mine[at] = mine[at].replace(old, new, 1)
+        with_line(0, "2", "1", "report 6 Baseline 1 Ledger at 1 head")
+        with_line(3, "regular", "irregular", "report 6 Baseline 1 Ledger at 4 class")
+        with_line(2, " 50 ", " 51 ", "report 6 Baseline 2 Contradiction at 3 link")
+        with_line(len(lines) - 1, "delivered ", "delivered 1", f"report 6 Baseline 2 Contradiction at {len(lines)} counts")
+        ran = run_at_terminal([*flights.command[:5], "--baseline", changed])
+        wanted = f"afdxmon: report 6 Baseline 2 Contradiction at {len(lines)} counts\n{changed}: {advice_on('report 2 Contradiction at 3 counts')}\n"
+        self.case("baseline: a terminal is told what is wrong with it", "" if ran.stderr == wanted else f"{ran.stderr!r} in place of {wanted!r}")
+        absent = os.path.join(self.folder, "absent")
+        ran = run_at_terminal([*flights.command[:5], "--baseline", absent])
+        wanted = f"afdxmon: file --baseline\n{absent}: "
+        self.case("baseline: a terminal is told why it isn't had", "" if ran.stderr.startswith(wanted) and len(ran.stderr) > len(wanted) + 1 else
+            f"{ran.stderr!r}")
+        refused("a baseline that isn't there", ["--baseline", os.path.join(self.folder, "absent")], FAULT, "file --baseline")
+        refused("a baseline that is a directory", ["--baseline", self.folder], FAULT, "report 6 Baseline 3 Read Ledger")
+        refused("an output that is the baseline", ["--baseline", flights.before, "-o", flights.before], FAULT, "file --output")
+        with open(flights.before, encoding="ascii") as file:
+            self.case("baseline: it is as it was", "" if file.read() == "".join(lines) else "it is written over")
+        ran = run([*flights.command[:3], "--ledger", "-", "--baseline", "-"], stdout=subprocess.PIPE, stdin=subprocess.DEVNULL)
+        self.case("baseline: standard input twice", "" if (ran.returncode, ran.stderr) == (FAULT, b"afdxmon: file --baseline\n") else f"{ran.stderr!r}")
         with open(changed, "w", encoding="ascii") as file:
-            file.write("".join(mine))
-        refused(f"a baseline with {new!r} in line {at + 1}", ["--baseline", changed], FAULT, line)
-
-    with_line(0, "2", "1", "report 6 Baseline 1 Ledger at 1 head")
-    with_line(3, "regular", "irregular", "report 6 Baseline 1 Ledger at 4 class")
-    with_line(2, " 50 ", " 51 ", "report 6 Baseline 2 Contradiction at 3 link")
-    with_line(len(lines) - 1, "delivered ", "delivered 1", f"report 6 Baseline 2 Contradiction at {len(lines)} counts")
-    ran = run_at_terminal([*flights.command[:5], "--baseline", changed])
-    wanted = f"afdxmon: report 6 Baseline 2 Contradiction at {len(lines)} counts\n{changed}: {advice_on('report 2 Contradiction at 3 counts')}\n"
-    say("baseline: a terminal is told what is wrong with it", "" if ran.stderr == wanted else f"{ran.stderr!r} in place of {wanted!r}")
-    absent = os.path.join(folder, "absent")
-    ran = run_at_terminal([*flights.command[:5], "--baseline", absent])
-    wanted = f"afdxmon: file --baseline\n{absent}: "
-    say("baseline: a terminal is told why it isn't had", "" if ran.stderr.startswith(wanted) and len(ran.stderr) > len(wanted) + 1 else
-        f"{ran.stderr!r}")
-    refused("a baseline that isn't there", ["--baseline", os.path.join(folder, "absent")], FAULT, "file --baseline")
-    refused("a baseline that is a directory", ["--baseline", folder], FAULT, "report 6 Baseline 3 Read Ledger")
-    refused("an output that is the baseline", ["--baseline", flights.before, "-o", flights.before], FAULT, "file --output")
-    with open(flights.before, encoding="ascii") as file:
-        say("baseline: it is as it was", "" if file.read() == "".join(lines) else "it is written over")
-    ran = run([*flights.command[:3], "--ledger", "-", "--baseline", "-"], stdout=subprocess.PIPE, stdin=subprocess.DEVNULL)
-    say("baseline: standard input twice", "" if (ran.returncode, ran.stderr) == (FAULT, b"afdxmon: file --baseline\n") else f"{ran.stderr!r}")
-    with open(changed, "w", encoding="ascii") as file:
-        file.write("".join(lines[:-1]))
-    ran = run([*flights.command[:5], "--baseline", changed, "--json"], stdout=subprocess.PIPE)
-    say("baseline: one without its line total", "" if ran.returncode == SUCCESS and json.loads(ran.stdout)["baseline"]["whole"] is False
-        else f"status {ran.returncode}: {ran.stderr!r}")
-    with open(flights.before, "rb") as file:
-        ran = run([*flights.command[:5], "--baseline", "-", "-o", output], stdin=file, stdout=subprocess.PIPE)
-    with open(output, "rb") as file:
-        same = file.read() == flights.told().stdout
-    say("baseline: standard input", "" if ran.returncode == SUCCESS and same else f"status {ran.returncode}: {ran.stderr!r}")
-
-
-def cases():
-    with tempfile.TemporaryDirectory() as folder:
-        planted(folder)
-        each_way(folder)
-        lengths(folder)
-        empty(folder)
-        other_rates(folder)
-        revisions(folder)
-        faults(folder)
-
-
-if __name__ == "__main__":
-    print(PROGRAM)
-    cases()
+            file.write("".join(lines[:-1]))
+        ran = run([*flights.command[:5], "--baseline", changed, "--json"], stdout=subprocess.PIPE)
+        self.case("baseline: one without its line total", "" if ran.returncode == SUCCESS and json.loads(ran.stdout)["baseline"]["whole"] is False
+            else f"status {ran.returncode}: {ran.stderr!r}")
+        with open(flights.before, "rb") as file:
+            ran = run([*flights.command[:5], "--baseline", "-", "-o", output], stdin=file, stdout=subprocess.PIPE)
+        with open(output, "rb") as file:
+            same = file.read() == flights.told().stdout
+        self.case("baseline: standard input", "" if ran.returncode == SUCCESS and same else f"status {ran.returncode}: {ran.stderr!r}")

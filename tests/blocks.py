@@ -8,13 +8,12 @@ import random
 import shutil
 import struct
 import subprocess
-import tempfile
 
-import pairs
-from harness import EVERY, FAULT, FIRST_64, SUCCESS, difference, frame, header, record, run, say
-from reference import FILE_STARTS, HEADER, disorder, parse, record_of
-from texts import ADVICE
-from watching import TABLE
+from tests import pairs
+from tests.harness import EVERY, FAULT, FIRST_64, SUCCESS, Case, difference, frame, header, record, run
+from tests.reference import FILE_STARTS, HEADER, disorder, parse, record_of
+from tests.texts import ADVICE
+from tests.watching import TABLE
 
 SECTION, INTERFACE, OLD_PACKET, SIMPLE, NAMES, STATISTICS, PACKET, CUSTOM = 0x0A0D0D0A, 1, 2, 3, 4, 5, 6, 0xBAD
 NAME, RESOLUTION, OFFSET, COMMENT = 2, 9, 14, 1
@@ -301,33 +300,6 @@ class Bench:
             out.write(data)
         return self.path(name)
 
-    def captured(self, name, data, choice=None):
-        """`capture` of a file and of standard input writes what the slow reader reads, and notes how that ended."""
-        reader = Reader(choice)
-        frames, ending, skipped = reader.read(data)
-        expected = HEADER + b"".join(record_of(*one) for one in frames)
-        path = self.put("in.pcapng", data)
-        suffix = "" if choice is None else f":{choice}"
-        told = note_of(ending, skipped, late=reader.late)
-        of_file = of_stream = (SUCCESS, told, expected)
-        if ending.endswith("nosuchinterface"):
-            # A file is looked at first; of a stream it shows at the end.
-            of_file, of_stream = (FAULT, f"afdxmon: interfaces RECORDING: {listed(data)}", b""), (FAULT, told, expected)
-        fault = difference(run(["capture", "--code", EVERY, path + suffix], stdin=subprocess.DEVNULL, stdout=subprocess.PIPE), *of_file)
-        stream = "/dev/stdin" + suffix if suffix else "-"
-        fault = fault or difference(run(["capture", "--code", EVERY, stream], input=data, stdout=subprocess.PIPE), *of_stream)
-        say(f"pcapng: {name}{suffix}", fault)
-
-    def refused(self, name, data, line, choice=""):
-        """A file that is refused, with its line; no output is made."""
-        path = self.put("in.pcapng", data)
-        out = self.path("refused.out")
-        ran = run(["capture", "--code", EVERY, path + choice, "-o", out], stdin=subprocess.DEVNULL, stdout=subprocess.PIPE)
-        fault = difference(ran, FAULT, line, b"")
-        if not fault and os.path.exists(out) and os.path.getsize(out):
-            fault = "an output was begun"
-        say(f"pcapng: {name}", fault)
-
 
 DATA = [frame(5, 60, 1), frame(5, 61, 2), frame(6, 62, 3), frame(6, 63, 4)]
 SECOND = 1_800_000_000
@@ -344,223 +316,12 @@ def plain(order="<"):
     return Blocks(order).section().interface("eth0", 9)
 
 
-def formats(bench):
-    """Byte orders, resolutions, offsets, options, blocks that aren't read."""
-    for order in "<>":
-        bench.captured(f"microseconds, {order}", four(Blocks(order).section().interface()).bytes())
-        bench.captured(f"nanoseconds, {order}", four(plain(order), 10**9).bytes())
-        for resolution in (0, 1, 3, 6, 7, 9):
-            bench.captured(f"resolution {resolution}, {order}", four(Blocks(order).section().interface("eth0", resolution), 10**resolution).bytes())
-        for resolution, ticks in ((10, 18_000_000_001_234_567_891), (12, 2**64 - 1), (18, 2**64 - 1), (19, 2**63), (20, 2**64 - 1), (28, 2**64 - 1), (29, 2**64 - 1), (127, 2**64 - 1)):
-            bench.captured(f"resolution {resolution}, {order}", Blocks(order).section().interface("eth0", resolution).packet(ticks, DATA[0]).bytes())
-        for power in (0, 1, 10, 20, 30, 31, 32, 34, 35, 52, 63, 64, 65, 94, 127):
-            ticks = min(2**64 - 1, (SECOND << power) + (1 << power) // 3) if power < 64 else 2**64 - 1
-            bench.captured(f"resolution 2^-{power}, {order}", Blocks(order).section().interface("eth0", 128 + power).packet(ticks, DATA[0]).bytes())
-        for offset in (-SECOND, -1, 0, 1, LAST_SECOND - SECOND - 4, LAST_SECOND - SECOND - 3, LAST_SECOND, -SECOND - 1, 2**63 - 1, -(2**63)):
-            bench.captured(f"offset {offset}, {order}", four(Blocks(order).section().interface("eth0", 6, offset)).bytes())
-        more = [(COMMENT, b"a comment"), (3, b"xyz"), (12, b"Linux"), (RESOLUTION, b"\x09"), (RESOLUTION, b"\x06"), (2988, b"12345")]
-        bench.captured(f"options, {order}", four(Blocks(order).section(options=Blocks(order).options((COMMENT, b"of a section"), (2, b"hardware"))).interface("eth0", more=more), 10**9).bytes())
-        file = plain(order).block(NAMES, bytes(8)).block(CUSTOM, bytes(40))
-        for i, data in enumerate(DATA):
-            file.packet((SECOND + i) * 10**9, data, options=file.options((COMMENT, b"packet %d" % i), (2, bytes(4)), end=i % 2 == 0)).block(STATISTICS, file.pack("III", 0, 0, 0))
-        bench.captured(f"blocks that aren't read, {order}", file.bytes())
-    bench.captured("the obsolete packet block", plain().old_packet(SECOND * 10**9, DATA[0]).old_packet(SECOND * 10**9 + 1, DATA[1], original=100).bytes())
-    bench.captured("a length on the wire", plain().packet(1, DATA[0], original=1000).packet(2, DATA[1], original=3).packet(3, b"", original=60).bytes())
-    bench.captured("version 1.2", four(Blocks().section(minor=2).interface()).bytes())
-    bench.captured("no interface", Blocks().section().bytes())
-    bench.captured("no packet", plain().bytes())
-
-
-def sections(bench):
-    """Sections number their interfaces anew, in byte orders of their own."""
-    two = four(Blocks("<").section().interface("eth0", 9), 10**9).bytes() + Blocks(">").section().interface("eth0").packet((SECOND + 5) * 10**6, DATA[0]).bytes()
-    bench.captured("two sections", two)
-    bench.captured("two sections", two, 0)
-    bench.captured("two sections", two, "eth0")
-    bench.captured("two sections", two, 1)
-    other = four(Blocks().section().interface("eth0", 9), 10**9).bytes() + Blocks().section().interface("lo", 9, link_type=113).interface("eth0", 9).packet((SECOND + 5) * 10**9, DATA[0], 1).bytes()
-    bench.captured("an interface of another number in each section", other, "eth0")
-    bench.captured("an interface of another number in each section", other, 0)
-    bench.captured("a packet before its section's interface", four(plain(), 10**9).section().packet(SECOND * 10**9 + 10**10, DATA[0]).bytes())
-
-
 def both_networks():
     """Two Ethernet interfaces and one of another kind."""
     file = Blocks().section().interface("eth0", 9).interface("usb", 9, link_type=220).interface("eth1", 9)
     for i, data in enumerate(DATA):
         file.packet((SECOND + i) * 10**9, data).packet((SECOND + i) * 10**9 + 5, b"usb", 1).packet((SECOND + i) * 10**9 + 1000, data, 2)
     return file.bytes()
-
-
-def two_of_a_name(bench):
-    """Of several interfaces of one name in a section its first is meant by the name, each by its number."""
-    file = Blocks().section().interface("usb", 9, link_type=220).interface("eth0", 9).interface("eth0", 9).interface("eth1", 9)
-    for i, data in enumerate(DATA):
-        for number in (2, 1, 3):
-            file.packet((SECOND + i) * 10**9 + number, data[:60] + bytes([number]), number)
-    later = Blocks(">").section().interface("eth1").interface("eth0").packet((SECOND + 9) * 10**6, DATA[0], 1).interface("eth0").packet((SECOND + 10) * 10**6, DATA[1], 2)
-    both = file.bytes() + later.packet((SECOND + 11) * 10**6, DATA[2], 1).bytes()
-    kinds = Blocks().section().interface("eth0", 9, link_type=220).interface("eth0", 9).packet(1, DATA[0], 1).packet(2, DATA[1]).packet(3, DATA[2], 1).bytes()
-    for choice in ("eth0", 1, 2, "eth1"):
-        bench.captured("two interfaces of a name", file.bytes(), choice)
-        bench.captured("two interfaces of a name, in two sections", both, choice)
-    bench.captured("two interfaces of a name, the first not of Ethernet", kinds, "eth0")
-    frames, ending, _ = Reader("eth0").read(file.bytes())
-    say("pcapng: a name means the first interface of it", "" if [data[-1] for *_, data in frames] == [1] * len(DATA) else ending)
-
-
-def absent(bench):
-    """A chosen interface that isn't there, or comes late, in files larger than what is looked at first."""
-    large = plain()
-    for i in range(1000):
-        large.packet((SECOND + i) * 10**9, bytes(1500) + bytes([i % 256]))
-    late = large.bytes() + Blocks().section().interface("eth0").interface("late").packet((SECOND + 2000) * 10**6, DATA[0], 1).bytes()
-    for choice in (9, "late", "eth0", 0, 1):
-        bench.captured("one interface, 1.5 MB", large.bytes(), choice)
-        bench.captured("an interface of a second section, after 1.5 MB", late, choice)
-    for name, words in (("watch", ["--config", bench.put("table", TABLE.encode()), "--a", "FILE", "--ledger", "OUT"]), ("links", ["--a", "FILE"]), ("cut", ["--ledger", bench.put("ledger", b"afdx-ledger 2\n"), "--a", "FILE", "-o", "OUT"])):
-        places = {"FILE": bench.put("in.pcapng", large.bytes()) + ":9", "OUT": bench.put("older", b"older")}
-        ran = run([name, *(places.get(word, word) for word in words)], stdin=subprocess.DEVNULL, stdout=subprocess.PIPE)
-        fault = difference(ran, FAULT, f"afdxmon: interfaces --a: {listed(large.bytes())}", b"")
-        with open(places["OUT"], "rb") as out:
-            say(f"pcapng: {name} of an interface that isn't there", fault or ("" if out.read() == b"older" else "an output was begun"))
-
-
-def choices(bench):
-    """An interface by its number and its name; a path that is there as it stands wins."""
-    both = both_networks()
-    for choice in (0, 1, 2, 3, 65535, "eth0", "eth1", "usb", "eth", "eth00", "ETH0"):
-        bench.captured("interfaces", both, choice)
-    two_of_a_name(bench)
-    several = "afdxmon: interfaces RECORDING: 0 eth0, 2 eth1"
-    bench.refused("several interfaces", both, several)
-    ran = run(["capture", "-v", "--code", EVERY, bench.path("in.pcapng")], stdin=subprocess.DEVNULL, stdout=subprocess.PIPE)
-    say("pcapng: several interfaces, in full", difference(ran, FAULT, f"{several}\n{bench.path('in.pcapng')}: {ADVICE['interfaces']}", b""))
-    damaged = Blocks().section().interface("eth0", 9).interface("eth1", 9).packet(1, DATA[0]).packet(2, DATA[1], 1).interface("eth2", 9, last=8)
-    bench.refused("an interface whose lengths differ isn't listed", damaged.bytes(), "afdxmon: interfaces RECORDING: 0 eth0, 1 eth1")
-    usb = Blocks().section().interface("usb", 9, link_type=220).packet(1, b"usb").bytes()
-    for name, data, choice in (("another kind alone", usb, ":eth7"), ("no interface", Blocks().section().bytes(), ":0")):
-        bench.refused(f"an interface of a file of {name}", data, "afdxmon: interfaces RECORDING: none of Ethernet", choice)
-    beside_a_dash(bench)
-    one = Blocks().section().interface("eth0", 9).interface("eth1", 9)
-    for i, data in enumerate(DATA):
-        one.packet((SECOND + i) * 10**9, data, 1)
-    bench.captured("two interfaces, packets of one", one.bytes())
-    bench.captured("two interfaces, packets of one", one.bytes(), 0)
-    nameless = Blocks().section().interface(None, 9).interface(None, 9).packet(1, DATA[0]).packet(2, DATA[0], 1).bytes()
-    bench.refused("several interfaces without names", nameless, "afdxmon: interfaces RECORDING: 0, 1")
-    ran = run(["capture", "--code", EVERY, "-"], input=both, stdout=subprocess.PIPE)
-    frames, ending, skipped = Reader(None).read(both)
-    say("pcapng: several interfaces through a pipe", difference(ran, SUCCESS, note_of(ending, skipped), HEADER + b"".join(record_of(*frame) for frame in frames)))
-    literal = bench.put("x:1", four(plain(), 10**9).bytes())
-    bench.put("x", both)
-    ran = run(["capture", "--code", EVERY, literal], stdin=subprocess.DEVNULL, stdout=subprocess.PIPE)
-    say("pcapng: a path that is there as it stands", difference(ran, SUCCESS, "", HEADER + b"".join(record_of(*one) for one in Reader(None).read(four(plain(), 10**9).bytes())[0])))
-    ran = run(["capture", "--code", EVERY, bench.path("missing:0")], stdin=subprocess.DEVNULL, stdout=subprocess.PIPE)
-    say("pcapng: neither the path nor what stands before the colon", difference(ran, FAULT, "afdxmon: file RECORDING", b""))
-    recording = bench.put("plain.pcap", header() + record(5, DATA[0]))
-    ran = run(["capture", "--code", EVERY, recording + ":0"], stdin=subprocess.DEVNULL, stdout=subprocess.PIPE)
-    say("pcapng: an interface of a pcap file", difference(ran, SUCCESS, "", HEADER + record(5, DATA[0])))
-    of_pcap(bench, recording)
-
-
-def beside_a_dash(bench):
-    """`-` is standard input, beside a file of that name too: that isn't looked at, and nothing is read twice. The file is `./-`."""
-    bench.put("-", both_networks())
-    late = plain().packet(SECOND * 10**9 + 5000, DATA[0]).packet(SECOND * 10**9, DATA[1])
-    for name, data in (("in order", four(plain(), 10**9).bytes()), ("out of order", late.bytes())):
-        for word, choice in (("-", None), ("-:0", 0), ("-:eth0", "eth0")):
-            reader = Reader(choice)
-            frames, ending, skipped = reader.read(data)
-            ran = run(["capture", "--code", EVERY, "--", word], cwd=bench.directory, input=data, stdout=subprocess.PIPE)
-            expected = HEADER + b"".join(record_of(*one) for one in frames)
-            say(f"pcapng: {word} beside a file -, {name}", difference(ran, SUCCESS, note_of(ending, skipped, late=reader.late), expected))
-    ran = run(["capture", "--code", EVERY, "./-"], cwd=bench.directory, stdin=subprocess.DEVNULL, stdout=subprocess.PIPE)
-    say("pcapng: ./- is the file", difference(ran, FAULT, "afdxmon: interfaces RECORDING: 0 eth0, 2 eth1", b""))
-
-
-def of_pcap(bench, recording):
-    """A pcap file has the interface 0, without a name: another one that is chosen isn't there."""
-    later = bench.put("later.pcap", header() + record(6, DATA[1]))
-    config, older = bench.put("table", TABLE.encode()), bench.put("older", b"older")
-    for choice in (":1", ":eth7", ":00001", ":-"):
-        for words, option in (
-            (["capture", "--code", EVERY, "-o", older], "RECORDING"),
-            (["watch", "--config", config, "--ledger", older, "--a"], "--a"),
-            (["links", "--b"], "--b"),
-            (["check", "--config", config, "--a"], "--a"),
-        ):
-            for files in ([recording + choice], [recording, later + choice]):
-                words_too = [*words, *files] if words[0] != "capture" else [*words[:3], *files, *words[3:]]
-                ran = run(words_too, stdin=subprocess.DEVNULL, stdout=subprocess.PIPE)
-                say(f"pcapng: {words[0]} of {len(files)} pcap files, {choice}", difference(ran, FAULT, f"afdxmon: interfaces {option}: 0", b""))
-    with open(older, "rb") as out:
-        say("pcapng: an interface of a pcap file, refused", "" if out.read() == b"older" else "an output was begun")
-
-
-def wrong(bench):
-    """Each thing that may be wrong later than the first section header, after a good packet."""
-
-    def begun(order="<"):
-        return plain(order).packet(SECOND * 10**9, DATA[0])
-
-    later = SECOND * 10**9 + 1
-    for order in "<>":
-        for length in (0, 4, 8, 13, 14, 15, 2**32 - 1):
-            bench.captured(f"a block of {length} bytes, {order}", begun(order).block(CUSTOM, bytes(400), length).bytes())
-        bench.captured(f"another length at the end, {order}", begun(order).packet(later, DATA[1], last=96).bytes())
-        bench.captured(f"another length at the end of a block that isn't read, {order}", begun(order).block(CUSTOM, bytes(400), last=416).packet(later, DATA[1]).bytes())
-        bench.captured(f"captured bytes beyond the block, {order}", begun(order).packet(later, DATA[1], captured=65).bytes())
-        bench.captured(f"an option beyond the block, {order}", begun(order).packet(later, DATA[1], options=struct.pack(order + "HH", 1, 5) + bytes(4)).bytes())
-        bench.captured(f"an interface that isn't described, {order}", begun(order).packet(later, DATA[1], 1).bytes())
-        bench.captured(f"a section of version 2, {order}", begun(order).bytes() + Blocks(order).section(2).interface().bytes())
-        bench.captured(f"a simple packet, {order}", begun(order).simple(DATA[1]).bytes())
-        bench.captured(f"a timestamp before the one before it, {order}", begun(order).packet(later - 2, DATA[1]).bytes())
-        bench.captured(f"a resolution of two bytes, {order}", begun(order).interface(more=[(RESOLUTION, b"66")]).bytes())
-        bench.captured(f"an offset of four bytes, {order}", begun(order).interface(more=[(OFFSET, b"6666")]).bytes())
-    for seconds, fraction in (struct.unpack("<II", start) for start in FILE_STARTS):
-        stamp = seconds * 10**9 + fraction
-        bench.captured(f"no bytes at {seconds}.{fraction:09}, as a pcap file begins", begun().packet(stamp, b"").packet(stamp, DATA[1]).bytes())
-        bench.captured(f"no bytes a nanosecond after {seconds}.{fraction:09}", plain().packet(stamp + 1, b"").packet(stamp + 1, DATA[1]).bytes())
-        bench.captured(f"no bytes of one on the wire at {seconds}.{fraction:09}", plain().packet(stamp, b"", original=1).bytes())
-    for size in (MOST_CAPTURED - 1, MOST_CAPTURED, MOST_CAPTURED + 1):
-        bench.captured(f"{size} captured bytes", begun().packet(later, bytes(size)).packet(later, DATA[0]).bytes())
-    bench.captured("a long block that isn't read", begun().block(CUSTOM, bytes(3 << 20)).packet(later, DATA[1]).bytes())
-    many = begun()
-    for _ in range(MOST_INTERFACES - 1):
-        many.interface()
-    bench.captured(f"{MOST_INTERFACES} interfaces", many.packet(later, DATA[1]).bytes())
-    say_too_many = many.interface().packet(later, DATA[1]).bytes()
-    path = bench.put("in.pcapng", say_too_many)
-    told = note_of("bad 2 toomanyinterfaces", 0)
-    frames = Reader(None).read(say_too_many)[0][:2]
-    expected = HEADER + b"".join(record_of(*one) for one in frames)
-    say(f"pcapng: {MOST_INTERFACES + 1} interfaces", difference(run(["capture", "--code", EVERY, path], stdin=subprocess.DEVNULL, stdout=subprocess.PIPE), SUCCESS, told, expected))
-
-
-def heads(bench):
-    """Each thing that may be wrong with the first section header: refused, and no output is begun."""
-    line = "afdxmon: watch 2 Header A {}"
-    whole = four(plain(), 10**9).bytes()
-    for length in (4, 8, 12, 27):
-        bench.refused(f"a head of {length} bytes", whole[:length], line.format("1 Short"))
-    for order in "<>":
-        rest = four(plain(order), 10**9).bytes()[28:]
-        bench.refused(f"another byte-order magic, {order}", Blocks(order).section(magic=0x1A2B3C4E).bytes() + rest, line.format("5 ByteOrderMagic"))
-        for version in (0, 2, 256):
-            bench.refused(f"version {version}, {order}", Blocks(order).section(version).bytes() + rest, line.format("6 SectionVersion"))
-        for length in (0, 12, 24, 27, 29, 30, MOST_BLOCK + 4):
-            bench.refused(f"a head that says {length} bytes, {order}", Blocks(order).section(length=length).bytes() + bytes(MOST_BLOCK), line.format("7 SectionLength"))
-        bench.refused(f"a head of two lengths, {order}", Blocks(order).section(last=32).bytes() + rest, line.format("8 SectionLengthsDiffer"))
-        bench.refused(f"a head's option beyond it, {order}", Blocks(order).section(options=struct.pack(order + "HH", 1, 9) + bytes(8)).bytes() + rest, line.format("9 SectionOption"))
-    bench.refused("the magic number of no recording", b"pcng" + HEADER[4:], line.format("2 Magic"))
-
-
-def cuts(bench):
-    """A file cut behind each byte."""
-    file = Blocks().section().interface("eth0", 9).packet(5, DATA[0], options=Blocks().options((COMMENT, b"one"))).block(CUSTOM, bytes(20)).packet(7, DATA[1]).bytes()
-    for length in range(28, len(file) + 1):
-        bench.captured(f"cut at byte {length}", file[:length])
 
 
 def ticks_of(stamp, resolution):
@@ -597,73 +358,301 @@ def as_blocks(chance, taps):
     return file.bytes()
 
 
-def generated(bench):
-    """`watch` on one file of two interfaces writes what it writes on two pcap files."""
-    tried = 0
-    for seed in range(40):
-        chance = random.Random(1000 + seed)
-        config, code, a, b = pairs.pair(chance)
-        taps = [parse(given, 1 << 62)[0] for given in (a, b)]
-        file = as_blocks(chance, taps)
-        if file is None:
-            continue
-        tried += 1
-        for name, data in (("config", config.encode()), ("filter", code.encode()), ("both.pcapng", file)):
-            bench.put(name, data)
-        outs = {}
-        for way, names in (("pcap", ("a.pcap", "b.pcap")), ("pcapng", (bench.path("both.pcapng") + ":0", bench.path("both.pcapng") + ":eth1"))):
-            if way == "pcap":
-                names = [bench.put(name, HEADER + b"".join(record_of(*one) for one in frames)) for name, frames in zip(names, taps)]
-            words = ["watch", "--config", bench.path("config"), "--filter", bench.path("filter"), "--a", names[0], "--b", names[1]]
-            ran = run([*words, "--capture", bench.path("capture"), "--ledger", bench.path("ledger")], stdin=subprocess.DEVNULL, stdout=subprocess.PIPE)
-            with open(bench.path("capture"), "rb") as capture, open(bench.path("ledger"), "rb") as ledger:
-                outs[way] = ran.returncode, capture.read(), ledger.read()
-        say(f"pcapng: pair {seed} as one file", "" if outs["pcap"] == outs["pcapng"] else f"{[len(part) for part in outs['pcap'][1:]]}, {[len(part) for part in outs['pcapng'][1:]]}, statuses {outs['pcap'][0]}, {outs['pcapng'][0]}")
-        words = ["cut", "--ledger", bench.path("ledger"), "--a", bench.path("both.pcapng:0"), "--b", bench.path("both.pcapng:1"), "--verdict", "delivered"]
-        plain_words = [*words[:3], "--a", bench.path("a.pcap"), "--b", bench.path("b.pcap"), *words[7:]]
-        cut_of = [run(one, stdin=subprocess.DEVNULL, stdout=subprocess.PIPE).stdout for one in (words, plain_words)]
-        say(f"pcapng: cut of pair {seed}", "" if cut_of[0] == cut_of[1] and cut_of[0][:4] == HEADER[:4] else "they differ")
-    say("pcapng: pairs are tried", "" if tried >= 20 else f"{tried}")
+class AtABench(Case):
+    """A test of `capture` at a bench of its own."""
+
+    def setUp(self):
+        self.bench = Bench(self.folder)
+
+    def captured(self, name, data, choice=None):
+        """`capture` of a file and of standard input writes what the slow reader reads, and notes how that ended."""
+        reader = Reader(choice)
+        frames, ending, skipped = reader.read(data)
+        expected = HEADER + b"".join(record_of(*one) for one in frames)
+        path = self.bench.put("in.pcapng", data)
+        suffix = "" if choice is None else f":{choice}"
+        told = note_of(ending, skipped, late=reader.late)
+        of_file = of_stream = (SUCCESS, told, expected)
+        if ending.endswith("nosuchinterface"):
+            # A file is looked at first; of a stream it shows at the end.
+            of_file, of_stream = (FAULT, f"afdxmon: interfaces RECORDING: {listed(data)}", b""), (FAULT, told, expected)
+        fault = difference(run(["capture", "--code", EVERY, path + suffix], stdin=subprocess.DEVNULL, stdout=subprocess.PIPE), *of_file)
+        stream = "/dev/stdin" + suffix if suffix else "-"
+        fault = fault or difference(run(["capture", "--code", EVERY, stream], input=data, stdout=subprocess.PIPE), *of_stream)
+        self.case(f"pcapng: {name}{suffix}", fault)
+
+    def refused(self, name, data, line, choice=""):
+        """A file that is refused, with its line; no output is made."""
+        path = self.bench.put("in.pcapng", data)
+        out = self.bench.path("refused.out")
+        ran = run(["capture", "--code", EVERY, path + choice, "-o", out], stdin=subprocess.DEVNULL, stdout=subprocess.PIPE)
+        fault = difference(ran, FAULT, line, b"")
+        if not fault and os.path.exists(out) and os.path.getsize(out):
+            fault = "an output was begun"
+        self.case(f"pcapng: {name}", fault)
 
 
-def other_commands(bench):
-    """`debug` reads pcapng, and notes what is left out; `watch` tells the interfaces of the network's file."""
-    both = bench.put("both.pcapng", both_networks())
-    ran = run(["debug", "--filter", bench.put("filter", FIRST_64.encode()), "--tap", both + ":eth1"], input=b"tally\n", stdout=subprocess.PIPE)
-    say("pcapng: debug", difference(ran, SUCCESS, "", b"frames 4\ntally accepted 4 rejected 0\n"))
-    bench.put("config", TABLE.encode())
-    ledger = bench.put("ledger", b"older")
-    for network, given in (("A", ["--a", both]), ("B", ["--b", both])):
-        ran = run(["watch", "--config", bench.path("config"), *given, "--ledger", ledger], stdin=subprocess.DEVNULL, stdout=subprocess.PIPE)
-        with open(ledger, "rb") as kept:
-            older = kept.read()
-        fault = difference(ran, FAULT, f"afdxmon: interfaces --{network.lower()}: 0 eth0, 2 eth1", b"")
-        say(f"pcapng: several interfaces of network {network}", fault or ("" if older == b"older" else "the ledger was touched"))
-    ran = run(["watch", "--config", bench.path("config"), "--a", both + ":0", "--b", both + ":1", "--ledger", "-"], stdin=subprocess.DEVNULL, stdout=subprocess.PIPE)
-    told = note_of("clean 0", 4, "B")
-    say("pcapng: packets that are not of Ethernet", difference(ran, SUCCESS, told))
-    ran = run(["watch", "--config", bench.path("config"), "--a", both + ":0", "--ledger", both], stdin=subprocess.DEVNULL, stdout=subprocess.PIPE)
-    say("pcapng: an output that is an input", difference(ran, FAULT, "afdxmon: file --ledger", b""))
+class Pcapng(AtABench):
 
+    def test_formats(self):
+        """Byte orders, resolutions, offsets, options, blocks that aren't read."""
+        for order in "<>":
+            self.captured(f"microseconds, {order}", four(Blocks(order).section().interface()).bytes())
+            self.captured(f"nanoseconds, {order}", four(plain(order), 10**9).bytes())
+            for resolution in (0, 1, 3, 6, 7, 9):
+                self.captured(f"resolution {resolution}, {order}", four(Blocks(order).section().interface("eth0", resolution), 10**resolution).bytes())
+            for resolution, ticks in ((10, 18_000_000_001_234_567_891), (12, 2**64 - 1), (18, 2**64 - 1), (19, 2**63), (20, 2**64 - 1), (28, 2**64 - 1), (29, 2**64 - 1), (127, 2**64 - 1)):
+                self.captured(f"resolution {resolution}, {order}", Blocks(order).section().interface("eth0", resolution).packet(ticks, DATA[0]).bytes())
+            for power in (0, 1, 10, 20, 30, 31, 32, 34, 35, 52, 63, 64, 65, 94, 127):
+                ticks = min(2**64 - 1, (SECOND << power) + (1 << power) // 3) if power < 64 else 2**64 - 1
+                self.captured(f"resolution 2^-{power}, {order}", Blocks(order).section().interface("eth0", 128 + power).packet(ticks, DATA[0]).bytes())
+            for offset in (-SECOND, -1, 0, 1, LAST_SECOND - SECOND - 4, LAST_SECOND - SECOND - 3, LAST_SECOND, -SECOND - 1, 2**63 - 1, -(2**63)):
+                self.captured(f"offset {offset}, {order}", four(Blocks(order).section().interface("eth0", 6, offset)).bytes())
+            more = [(COMMENT, b"a comment"), (3, b"xyz"), (12, b"Linux"), (RESOLUTION, b"\x09"), (RESOLUTION, b"\x06"), (2988, b"12345")]
+            self.captured(f"options, {order}", four(Blocks(order).section(options=Blocks(order).options((COMMENT, b"of a section"), (2, b"hardware"))).interface("eth0", more=more), 10**9).bytes())
+            file = plain(order).block(NAMES, bytes(8)).block(CUSTOM, bytes(40))
+            for i, data in enumerate(DATA):
+                file.packet((SECOND + i) * 10**9, data, options=file.options((COMMENT, b"packet %d" % i), (2, bytes(4)), end=i % 2 == 0)).block(STATISTICS, file.pack("III", 0, 0, 0))
+            self.captured(f"blocks that aren't read, {order}", file.bytes())
+        self.captured("the obsolete packet block", plain().old_packet(SECOND * 10**9, DATA[0]).old_packet(SECOND * 10**9 + 1, DATA[1], original=100).bytes())
+        self.captured("a length on the wire", plain().packet(1, DATA[0], original=1000).packet(2, DATA[1], original=3).packet(3, b"", original=60).bytes())
+        self.captured("version 1.2", four(Blocks().section(minor=2).interface()).bytes())
+        self.captured("no interface", Blocks().section().bytes())
+        self.captured("no packet", plain().bytes())
 
-def tools(bench):
-    """Files of editcap and mergecap read as the pcap files that they come of."""
-    for tool in ("editcap", "mergecap"):
-        if not shutil.which(tool):
-            say(f"pcapng: {tool} is left out", "")
-            continue
-        taps = [HEADER + b"".join(record(SECOND * 10**9 + i * 1000 + shift, data) for i, data in enumerate(DATA * 9)) for shift in (0, 7)]
-        paths = [bench.put(f"{i}.pcap", data) for i, data in enumerate(taps)]
-        out = bench.path("out.pcapng")
-        command = [tool, "-F", "pcapng", paths[0], out] if tool == "editcap" else [tool, "-F", "pcapng", "-I", "none", "-w", out, *paths]
-        subprocess.run(command, check=True, capture_output=True, timeout=60)
-        for i, expected in enumerate(taps[:1] if tool == "editcap" else taps):
-            ran = run(["capture", "--code", EVERY, f"{out}:{i}"], stdin=subprocess.DEVNULL, stdout=subprocess.PIPE)
-            say(f"pcapng: interface {i} of {tool}", difference(ran, SUCCESS, "", expected))
+    def test_sections(self):
+        """Sections number their interfaces anew, in byte orders of their own."""
+        two = four(Blocks("<").section().interface("eth0", 9), 10**9).bytes() + Blocks(">").section().interface("eth0").packet((SECOND + 5) * 10**6, DATA[0]).bytes()
+        self.captured("two sections", two)
+        self.captured("two sections", two, 0)
+        self.captured("two sections", two, "eth0")
+        self.captured("two sections", two, 1)
+        other = four(Blocks().section().interface("eth0", 9), 10**9).bytes() + Blocks().section().interface("lo", 9, link_type=113).interface("eth0", 9).packet((SECOND + 5) * 10**9, DATA[0], 1).bytes()
+        self.captured("an interface of another number in each section", other, "eth0")
+        self.captured("an interface of another number in each section", other, 0)
+        self.captured("a packet before its section's interface", four(plain(), 10**9).section().packet(SECOND * 10**9 + 10**10, DATA[0]).bytes())
 
+    def two_of_a_name(self):
+        """Of several interfaces of one name in a section its first is meant by the name, each by its number."""
+        file = Blocks().section().interface("usb", 9, link_type=220).interface("eth0", 9).interface("eth0", 9).interface("eth1", 9)
+        for i, data in enumerate(DATA):
+            for number in (2, 1, 3):
+                file.packet((SECOND + i) * 10**9 + number, data[:60] + bytes([number]), number)
+        later = Blocks(">").section().interface("eth1").interface("eth0").packet((SECOND + 9) * 10**6, DATA[0], 1).interface("eth0").packet((SECOND + 10) * 10**6, DATA[1], 2)
+        both = file.bytes() + later.packet((SECOND + 11) * 10**6, DATA[2], 1).bytes()
+        kinds = Blocks().section().interface("eth0", 9, link_type=220).interface("eth0", 9).packet(1, DATA[0], 1).packet(2, DATA[1]).packet(3, DATA[2], 1).bytes()
+        for choice in ("eth0", 1, 2, "eth1"):
+            self.captured("two interfaces of a name", file.bytes(), choice)
+            self.captured("two interfaces of a name, in two sections", both, choice)
+        self.captured("two interfaces of a name, the first not of Ethernet", kinds, "eth0")
+        frames, ending, _ = Reader("eth0").read(file.bytes())
+        self.case("pcapng: a name means the first interface of it", "" if [data[-1] for *_, data in frames] == [1] * len(DATA) else ending)
 
-def cases():
-    with tempfile.TemporaryDirectory() as directory:
-        bench = Bench(directory)
-        for part in (formats, sections, choices, absent, wrong, heads, cuts, other_commands, generated, tools):
-            part(bench)
+    def test_absent(self):
+        """A chosen interface that isn't there, or comes late, in files larger than what is looked at first."""
+        large = plain()
+        for i in range(1000):
+            large.packet((SECOND + i) * 10**9, bytes(1500) + bytes([i % 256]))
+        late = large.bytes() + Blocks().section().interface("eth0").interface("late").packet((SECOND + 2000) * 10**6, DATA[0], 1).bytes()
+        for choice in (9, "late", "eth0", 0, 1):
+            self.captured("one interface, 1.5 MB", large.bytes(), choice)
+            self.captured("an interface of a second section, after 1.5 MB", late, choice)
+        for name, words in (("watch", ["--config", self.bench.put("table", TABLE.encode()), "--a", "FILE", "--ledger", "OUT"]), ("links", ["--a", "FILE"]), ("cut", ["--ledger", self.bench.put("ledger", b"afdx-ledger 2\n"), "--a", "FILE", "-o", "OUT"])):
+            places = {"FILE": self.bench.put("in.pcapng", large.bytes()) + ":9", "OUT": self.bench.put("older", b"older")}
+            ran = run([name, *(places.get(word, word) for word in words)], stdin=subprocess.DEVNULL, stdout=subprocess.PIPE)
+            fault = difference(ran, FAULT, f"afdxmon: interfaces --a: {listed(large.bytes())}", b"")
+            with open(places["OUT"], "rb") as out:
+                self.case(f"pcapng: {name} of an interface that isn't there", fault or ("" if out.read() == b"older" else "an output was begun"))
+
+    def test_choices(self):
+        """An interface by its number and its name; a path that is there as it stands wins."""
+        both = both_networks()
+        for choice in (0, 1, 2, 3, 65535, "eth0", "eth1", "usb", "eth", "eth00", "ETH0"):
+            self.captured("interfaces", both, choice)
+        self.two_of_a_name()
+        several = "afdxmon: interfaces RECORDING: 0 eth0, 2 eth1"
+        self.refused("several interfaces", both, several)
+        ran = run(["capture", "-v", "--code", EVERY, self.bench.path("in.pcapng")], stdin=subprocess.DEVNULL, stdout=subprocess.PIPE)
+        self.case("pcapng: several interfaces, in full", difference(ran, FAULT, f"{several}\n{self.bench.path('in.pcapng')}: {ADVICE['interfaces']}", b""))
+        damaged = Blocks().section().interface("eth0", 9).interface("eth1", 9).packet(1, DATA[0]).packet(2, DATA[1], 1).interface("eth2", 9, last=8)
+        self.refused("an interface whose lengths differ isn't listed", damaged.bytes(), "afdxmon: interfaces RECORDING: 0 eth0, 1 eth1")
+        usb = Blocks().section().interface("usb", 9, link_type=220).packet(1, b"usb").bytes()
+        for name, data, choice in (("another kind alone", usb, ":eth7"), ("no interface", Blocks().section().bytes(), ":0")):
+            self.refused(f"an interface of a file of {name}", data, "afdxmon: interfaces RECORDING: none of Ethernet", choice)
+        self.beside_a_dash()
+        one = Blocks().section().interface("eth0", 9).interface("eth1", 9)
+        for i, data in enumerate(DATA):
+            one.packet((SECOND + i) * 10**9, data, 1)
+        self.captured("two interfaces, packets of one", one.bytes())
+        self.captured("two interfaces, packets of one", one.bytes(), 0)
+        nameless = Blocks().section().interface(None, 9).interface(None, 9).packet(1, DATA[0]).packet(2, DATA[0], 1).bytes()
+        self.refused("several interfaces without names", nameless, "afdxmon: interfaces RECORDING: 0, 1")
+        ran = run(["capture", "--code", EVERY, "-"], input=both, stdout=subprocess.PIPE)
+        frames, ending, skipped = Reader(None).read(both)
+        self.case("pcapng: several interfaces through a pipe", difference(ran, SUCCESS, note_of(ending, skipped), HEADER + b"".join(record_of(*frame) for frame in frames)))
+        literal = self.bench.put("x:1", four(plain(), 10**9).bytes())
+        self.bench.put("x", both)
+        ran = run(["capture", "--code", EVERY, literal], stdin=subprocess.DEVNULL, stdout=subprocess.PIPE)
+        self.case("pcapng: a path that is there as it stands", difference(ran, SUCCESS, "", HEADER + b"".join(record_of(*one) for one in Reader(None).read(four(plain(), 10**9).bytes())[0])))
+        ran = run(["capture", "--code", EVERY, self.bench.path("missing:0")], stdin=subprocess.DEVNULL, stdout=subprocess.PIPE)
+        self.case("pcapng: neither the path nor what stands before the colon", difference(ran, FAULT, "afdxmon: file RECORDING", b""))
+        recording = self.bench.put("plain.pcap", header() + record(5, DATA[0]))
+        ran = run(["capture", "--code", EVERY, recording + ":0"], stdin=subprocess.DEVNULL, stdout=subprocess.PIPE)
+        self.case("pcapng: an interface of a pcap file", difference(ran, SUCCESS, "", HEADER + record(5, DATA[0])))
+        self.of_pcap(recording)
+
+    def beside_a_dash(self):
+        """`-` is standard input, beside a file of that name too: that isn't looked at, and nothing is read twice. The file is `./-`."""
+        self.bench.put("-", both_networks())
+        late = plain().packet(SECOND * 10**9 + 5000, DATA[0]).packet(SECOND * 10**9, DATA[1])
+        for name, data in (("in order", four(plain(), 10**9).bytes()), ("out of order", late.bytes())):
+            for word, choice in (("-", None), ("-:0", 0), ("-:eth0", "eth0")):
+                reader = Reader(choice)
+                frames, ending, skipped = reader.read(data)
+                ran = run(["capture", "--code", EVERY, "--", word], cwd=self.bench.directory, input=data, stdout=subprocess.PIPE)
+                expected = HEADER + b"".join(record_of(*one) for one in frames)
+                self.case(f"pcapng: {word} beside a file -, {name}", difference(ran, SUCCESS, note_of(ending, skipped, late=reader.late), expected))
+        ran = run(["capture", "--code", EVERY, "./-"], cwd=self.bench.directory, stdin=subprocess.DEVNULL, stdout=subprocess.PIPE)
+        self.case("pcapng: ./- is the file", difference(ran, FAULT, "afdxmon: interfaces RECORDING: 0 eth0, 2 eth1", b""))
+
+    def of_pcap(self, recording):
+        """A pcap file has the interface 0, without a name: another one that is chosen isn't there."""
+        later = self.bench.put("later.pcap", header() + record(6, DATA[1]))
+        config, older = self.bench.put("table", TABLE.encode()), self.bench.put("older", b"older")
+        for choice in (":1", ":eth7", ":00001", ":-"):
+            for words, option in (
+                (["capture", "--code", EVERY, "-o", older], "RECORDING"),
+                (["watch", "--config", config, "--ledger", older, "--a"], "--a"),
+                (["links", "--b"], "--b"),
+                (["check", "--config", config, "--a"], "--a"),
+            ):
+                for files in ([recording + choice], [recording, later + choice]):
+                    words_too = [*words, *files] if words[0] != "capture" else [*words[:3], *files, *words[3:]]
+                    ran = run(words_too, stdin=subprocess.DEVNULL, stdout=subprocess.PIPE)
+                    self.case(f"pcapng: {words[0]} of {len(files)} pcap files, {choice}", difference(ran, FAULT, f"afdxmon: interfaces {option}: 0", b""))
+        with open(older, "rb") as out:
+            self.case("pcapng: an interface of a pcap file, refused", "" if out.read() == b"older" else "an output was begun")
+
+    def test_wrong(self):
+        """Each thing that may be wrong later than the first section header, after a good packet."""
+
+        def begun(order="<"):
+            return plain(order).packet(SECOND * 10**9, DATA[0])
+
+        later = SECOND * 10**9 + 1
+        for order in "<>":
+            for length in (0, 4, 8, 13, 14, 15, 2**32 - 1):
+                self.captured(f"a block of {length} bytes, {order}", begun(order).block(CUSTOM, bytes(400), length).bytes())
+            self.captured(f"another length at the end, {order}", begun(order).packet(later, DATA[1], last=96).bytes())
+            self.captured(f"another length at the end of a block that isn't read, {order}", begun(order).block(CUSTOM, bytes(400), last=416).packet(later, DATA[1]).bytes())
+            self.captured(f"captured bytes beyond the block, {order}", begun(order).packet(later, DATA[1], captured=65).bytes())
+            self.captured(f"an option beyond the block, {order}", begun(order).packet(later, DATA[1], options=struct.pack(order + "HH", 1, 5) + bytes(4)).bytes())
+            self.captured(f"an interface that isn't described, {order}", begun(order).packet(later, DATA[1], 1).bytes())
+            self.captured(f"a section of version 2, {order}", begun(order).bytes() + Blocks(order).section(2).interface().bytes())
+            self.captured(f"a simple packet, {order}", begun(order).simple(DATA[1]).bytes())
+            self.captured(f"a timestamp before the one before it, {order}", begun(order).packet(later - 2, DATA[1]).bytes())
+            self.captured(f"a resolution of two bytes, {order}", begun(order).interface(more=[(RESOLUTION, b"66")]).bytes())
+            self.captured(f"an offset of four bytes, {order}", begun(order).interface(more=[(OFFSET, b"6666")]).bytes())
+        for seconds, fraction in (struct.unpack("<II", start) for start in FILE_STARTS):
+            stamp = seconds * 10**9 + fraction
+            self.captured(f"no bytes at {seconds}.{fraction:09}, as a pcap file begins", begun().packet(stamp, b"").packet(stamp, DATA[1]).bytes())
+            self.captured(f"no bytes a nanosecond after {seconds}.{fraction:09}", plain().packet(stamp + 1, b"").packet(stamp + 1, DATA[1]).bytes())
+            self.captured(f"no bytes of one on the wire at {seconds}.{fraction:09}", plain().packet(stamp, b"", original=1).bytes())
+        for size in (MOST_CAPTURED - 1, MOST_CAPTURED, MOST_CAPTURED + 1):
+            self.captured(f"{size} captured bytes", begun().packet(later, bytes(size)).packet(later, DATA[0]).bytes())
+        self.captured("a long block that isn't read", begun().block(CUSTOM, bytes(3 << 20)).packet(later, DATA[1]).bytes())
+        many = begun()
+        for _ in range(MOST_INTERFACES - 1):
+            many.interface()
+        self.captured(f"{MOST_INTERFACES} interfaces", many.packet(later, DATA[1]).bytes())
+        say_too_many = many.interface().packet(later, DATA[1]).bytes()
+        path = self.bench.put("in.pcapng", say_too_many)
+        told = note_of("bad 2 toomanyinterfaces", 0)
+        frames = Reader(None).read(say_too_many)[0][:2]
+        expected = HEADER + b"".join(record_of(*one) for one in frames)
+        self.case(f"pcapng: {MOST_INTERFACES + 1} interfaces", difference(run(["capture", "--code", EVERY, path], stdin=subprocess.DEVNULL, stdout=subprocess.PIPE), SUCCESS, told, expected))
+
+    def test_heads(self):
+        """Each thing that may be wrong with the first section header: refused, and no output is begun."""
+        line = "afdxmon: watch 2 Header A {}"
+        whole = four(plain(), 10**9).bytes()
+        for length in (4, 8, 12, 27):
+            self.refused(f"a head of {length} bytes", whole[:length], line.format("1 Short"))
+        for order in "<>":
+            rest = four(plain(order), 10**9).bytes()[28:]
+            self.refused(f"another byte-order magic, {order}", Blocks(order).section(magic=0x1A2B3C4E).bytes() + rest, line.format("5 ByteOrderMagic"))
+            for version in (0, 2, 256):
+                self.refused(f"version {version}, {order}", Blocks(order).section(version).bytes() + rest, line.format("6 SectionVersion"))
+            for length in (0, 12, 24, 27, 29, 30, MOST_BLOCK + 4):
+                self.refused(f"a head that says {length} bytes, {order}", Blocks(order).section(length=length).bytes() + bytes(MOST_BLOCK), line.format("7 SectionLength"))
+            self.refused(f"a head of two lengths, {order}", Blocks(order).section(last=32).bytes() + rest, line.format("8 SectionLengthsDiffer"))
+            self.refused(f"a head's option beyond it, {order}", Blocks(order).section(options=struct.pack(order + "HH", 1, 9) + bytes(8)).bytes() + rest, line.format("9 SectionOption"))
+        self.refused("the magic number of no recording", b"pcng" + HEADER[4:], line.format("2 Magic"))
+
+    def test_cuts(self):
+        """A file cut behind each byte."""
+        file = Blocks().section().interface("eth0", 9).packet(5, DATA[0], options=Blocks().options((COMMENT, b"one"))).block(CUSTOM, bytes(20)).packet(7, DATA[1]).bytes()
+        for length in range(28, len(file) + 1):
+            self.captured(f"cut at byte {length}", file[:length])
+
+    def test_generated(self):
+        """`watch` on one file of two interfaces writes what it writes on two pcap files."""
+        tried = 0
+        for seed in range(40):
+            chance = random.Random(1000 + seed)
+            config, code, a, b = pairs.pair(chance)
+            taps = [parse(given, 1 << 62)[0] for given in (a, b)]
+            file = as_blocks(chance, taps)
+            if file is None:
+                continue
+            tried += 1
+            for name, data in (("config", config.encode()), ("filter", code.encode()), ("both.pcapng", file)):
+                self.bench.put(name, data)
+            outs = {}
+            for way, names in (("pcap", ("a.pcap", "b.pcap")), ("pcapng", (self.bench.path("both.pcapng") + ":0", self.bench.path("both.pcapng") + ":eth1"))):
+                if way == "pcap":
+                    names = [self.bench.put(name, HEADER + b"".join(record_of(*one) for one in frames)) for name, frames in zip(names, taps)]
+                words = ["watch", "--config", self.bench.path("config"), "--filter", self.bench.path("filter"), "--a", names[0], "--b", names[1]]
+                ran = run([*words, "--capture", self.bench.path("capture"), "--ledger", self.bench.path("ledger")], stdin=subprocess.DEVNULL, stdout=subprocess.PIPE)
+                with open(self.bench.path("capture"), "rb") as capture, open(self.bench.path("ledger"), "rb") as ledger:
+                    outs[way] = ran.returncode, capture.read(), ledger.read()
+            self.case(f"pcapng: pair {seed} as one file", "" if outs["pcap"] == outs["pcapng"] else f"{[len(part) for part in outs['pcap'][1:]]}, {[len(part) for part in outs['pcapng'][1:]]}, statuses {outs['pcap'][0]}, {outs['pcapng'][0]}")
+            words = ["cut", "--ledger", self.bench.path("ledger"), "--a", self.bench.path("both.pcapng:0"), "--b", self.bench.path("both.pcapng:1"), "--verdict", "delivered"]
+            plain_words = [*words[:3], "--a", self.bench.path("a.pcap"), "--b", self.bench.path("b.pcap"), *words[7:]]
+            cut_of = [run(one, stdin=subprocess.DEVNULL, stdout=subprocess.PIPE).stdout for one in (words, plain_words)]
+            self.case(f"pcapng: cut of pair {seed}", "" if cut_of[0] == cut_of[1] and cut_of[0][:4] == HEADER[:4] else "they differ")
+        self.case("pcapng: pairs are tried", "" if tried >= 20 else f"{tried}")
+
+    def test_other_commands(self):
+        """`debug` reads pcapng, and notes what is left out; `watch` tells the interfaces of the network's file."""
+        both = self.bench.put("both.pcapng", both_networks())
+        ran = run(["debug", "--filter", self.bench.put("filter", FIRST_64.encode()), "--tap", both + ":eth1"], input=b"tally\n", stdout=subprocess.PIPE)
+        self.case("pcapng: debug", difference(ran, SUCCESS, "", b"frames 4\ntally accepted 4 rejected 0\n"))
+        self.bench.put("config", TABLE.encode())
+        ledger = self.bench.put("ledger", b"older")
+        for network, given in (("A", ["--a", both]), ("B", ["--b", both])):
+            ran = run(["watch", "--config", self.bench.path("config"), *given, "--ledger", ledger], stdin=subprocess.DEVNULL, stdout=subprocess.PIPE)
+            with open(ledger, "rb") as kept:
+                older = kept.read()
+            fault = difference(ran, FAULT, f"afdxmon: interfaces --{network.lower()}: 0 eth0, 2 eth1", b"")
+            self.case(f"pcapng: several interfaces of network {network}", fault or ("" if older == b"older" else "the ledger was touched"))
+        ran = run(["watch", "--config", self.bench.path("config"), "--a", both + ":0", "--b", both + ":1", "--ledger", "-"], stdin=subprocess.DEVNULL, stdout=subprocess.PIPE)
+        told = note_of("clean 0", 4, "B")
+        self.case("pcapng: packets that are not of Ethernet", difference(ran, SUCCESS, told))
+        ran = run(["watch", "--config", self.bench.path("config"), "--a", both + ":0", "--ledger", both], stdin=subprocess.DEVNULL, stdout=subprocess.PIPE)
+        self.case("pcapng: an output that is an input", difference(ran, FAULT, "afdxmon: file --ledger", b""))
+
+    def test_tools(self):
+        """Files of editcap and mergecap read as the pcap files that they come of."""
+        for tool in ("editcap", "mergecap"):
+            if not shutil.which(tool):
+                self.case(f"pcapng: {tool} is left out", "")
+                continue
+            taps = [HEADER + b"".join(record(SECOND * 10**9 + i * 1000 + shift, data) for i, data in enumerate(DATA * 9)) for shift in (0, 7)]
+            paths = [self.bench.put(f"{i}.pcap", data) for i, data in enumerate(taps)]
+            out = self.bench.path("out.pcapng")
+            command = [tool, "-F", "pcapng", paths[0], out] if tool == "editcap" else [tool, "-F", "pcapng", "-I", "none", "-w", out, *paths]
+            subprocess.run(command, check=True, capture_output=True, timeout=60)
+            for i, expected in enumerate(taps[:1] if tool == "editcap" else taps):
+                ran = run(["capture", "--code", EVERY, f"{out}:{i}"], stdin=subprocess.DEVNULL, stdout=subprocess.PIPE)
+                self.case(f"pcapng: interface {i} of {tool}", difference(ran, SUCCESS, "", expected))

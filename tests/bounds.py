@@ -6,9 +6,10 @@ account, of SkewMax, of the window for late timestamps and of Smax. Each run is 
 import random
 import struct
 
-import pairs
-from analyser import watch
-from harness import EVERY, header, record, say
+from tests import pairs
+from tests.analyser import watch
+from tests.harness import EVERY, header, record
+from tests.watching import AtADesk
 
 SECOND = 10**9
 LAST_SECOND = 4294967295
@@ -124,17 +125,20 @@ def all_cases():
         yield name, random.Random(name), case
 
 
-def cases(desk):
-    for name, chance, case in all_cases():
-        config, code, a, b = inputs(chance, case)
-        expected = watch(config, code, a, b)
-        desk.lay(config=config, filter=code, a=a, b=b)
-        ran = desk.watch("--workers", str(case["workers"]))
-        say(f"watch at its bounds: {name}", desk.agrees(ran, expected.capture, expected.lines + expected.summary))
-    # The largest identifiers of frames and the last timestamp stand alone, and nothing comes after them.
-    alone = header() + record((LAST_SECOND + 1) * SECOND - 1, struct.pack(">IH", 0x03000000, 65535) + bytes(53) + b"\xff")
-    link = {"id": 65535, "name": "x", "bag_ms": 128, "jitter_us": 10**5, "smax": 64, "integrity": "true", "redundancy": "true", "skew_us": 10**6}
-    config = "constant = 50331648\n" + LINK.format(**link)
-    expected = watch(config, EVERY, alone, alone)
-    desk.lay(config=config, filter=EVERY, a=alone, b=alone)
-    say("watch at its bounds: the last nanosecond", desk.agrees(desk.watch(), expected.capture, expected.lines + expected.summary))
+class Bounds(AtADesk):
+    def test_bounds(self):
+        for name, chance, case in all_cases():
+            config, code, a, b = inputs(chance, case)
+            expected = watch(config, code, a, b)
+            self.desk.lay(config=config, filter=code, a=a, b=b)
+            ran = self.desk.watch("--workers", str(case["workers"]))
+            self.case(f"watch at its bounds: {name}", self.desk.agrees(ran, expected.capture, expected.lines + expected.summary))
+
+    def test_last_nanosecond(self):
+        """The largest identifiers of frames and the last timestamp stand alone, and nothing comes after them."""
+        alone = header() + record((LAST_SECOND + 1) * SECOND - 1, struct.pack(">IH", 0x03000000, 65535) + bytes(53) + b"\xff")
+        link = {"id": 65535, "name": "x", "bag_ms": 128, "jitter_us": 10**5, "smax": 64, "integrity": "true", "redundancy": "true", "skew_us": 10**6}
+        config = "constant = 50331648\n" + LINK.format(**link)
+        expected = watch(config, EVERY, alone, alone)
+        self.desk.lay(config=config, filter=EVERY, a=alone, b=alone)
+        self.case("watch at its bounds: the last nanosecond", self.desk.agrees(self.desk.watch(), expected.capture, expected.lines + expected.summary))

@@ -8,13 +8,12 @@ import os
 import random
 import struct
 import subprocess
-import tempfile
 import zlib
 from datetime import datetime, timedelta, timezone
 
-import texts
-from harness import FAULT, SUCCESS, difference, frame, header, record, run, run_at_terminal, say
-from reference import disorder, lateness_after, parse
+from tests import texts
+from tests.harness import FAULT, SUCCESS, Case, difference, frame, header, record, run, run_at_terminal
+from tests.reference import disorder, lateness_after, parse
 
 MS = 10**6
 START = 1_800_000_000 * 10**9
@@ -207,59 +206,6 @@ def asked(*arguments, **how):
 def first_difference(found, expected):
     pairs = zip(found.splitlines() + [""], expected.splitlines() + [""])
     return next((f"{one!r}, not {other!r}" for one, other in pairs if one != other), "" if found == expected else "the ends differ")
-
-
-def judged(name, ran, text, line=None):
-    """An answer: its text whole, and the status and standard error that go with it."""
-    sound = "\nsound: yes" in text
-    fault = difference(ran, SUCCESS if sound else FAULT, ("" if sound else UNSOUND) if line is None else line)
-    say(f"check: {name}", fault or first_difference(ran.stdout.decode(), text))
-
-
-def of_tables(work):
-    path = os.path.join(work, "t.toml")
-    for name, table in tables():
-        write(path, table.text)
-        judged(name, asked("--config", path), text_of_table(path, table))
-        ran = asked("--config", path, "--json")
-        answer, faults = json.loads(ran.stdout), faults_of(table)
-        fits = answer["table"]["faults"] == faults[:100] and answer["table"]["fault_count"] == len(faults) and answer["sound"] == (not faults)
-        say(f"check: {name}, as JSON", "" if fits else f"{answer['table']} is not {faults[:3]}")
-
-
-def of_wide_tables(work):
-    """Tables whose faults are no key's, and links in other forms."""
-    path = os.path.join(work, "t.toml")
-    write(path, "constant = 50331648\nlink = [\n  { id = 5, bag_ms = 3 },\n  7,\n]\n")
-    missing = [key for key in LINK_KEYS if key not in ("id", "bag_ms")]
-    text = f"table: {path}: 8 faults\nfault: {path}:2:1: link = a value of type array: {texts.ALLOWED['link']}\n"
-    text += "".join(f"fault: {path}:3:3: link 0, id 5: {key} is missing: {texts.ALLOWED[key]}\n" for key in missing)
-    text += f"fault: {path}:3:13: link 0, id 5: bag_ms = 3: {texts.ALLOWED['bag_ms']}\nsound: no, 8 faults and 0 questions\n"
-    judged("links as inline tables, one of them none", asked("--config", path), text)
-    write(path, "constant = 50331648\nlate_us == 1\n")
-    ran = asked("--config", path)
-    say("check: a text that is no TOML", difference(ran, FAULT, UNSOUND) or ("" if ran.stdout.startswith(f"table: {path}: 1 fault\nfault: {path}:2:".encode()) else repr(ran.stdout)))
-    many = Table(TOP, [{**LINK, "id": str(k), "name": f'"l{k}"'} for k in range(4097)])
-    write(path, many.text)
-    line, _ = many.places[4096, None]
-    text = f"table: {path}: 1 fault\nfault: {path}:{line}:1: 4097 links and 0 filters: at most 4096 links and 7 filters\nsound: no, 1 fault and 0 questions\n"
-    judged("4097 links", asked("--config", path), text)
-    write(path, Table({**TOP, "filters": str(["1,6 0 0 0,"] * 8).replace("'", '"')}, [LINK]).text)
-    text = f"table: {path}: 1 fault\nfault: {path}:3:1: 1 link and 8 filters: at most 4096 links and 7 filters\nsound: no, 1 fault and 0 questions\n"
-    judged("eight filters", asked("--config", path), text)
-
-
-def of_filters(work):
-    path, code = os.path.join(work, "t.toml"), os.path.join(work, "f.bpf")
-    write(path, Table({**TOP, "filters": '["1,6 0 0 0,", "2,6 0 0 0,255 0 0 0,", "x"]'}, [LINK]).text)
-    write(code, "2,5 0 0 1,6 0 0 0,")
-    text = f"table: {path}: 1 link, constant 50331648\nfault: load 7 Jump at 0\nfilter: 1 of the table: 1 instruction\n"
-    text += "fault: load 2 UnknownCode at 1 filter 2\nfault: numeric 1 Character at 0 filter 3\nsound: no, 3 faults and 0 questions\n"
-    judged("three filters that are refused", asked("--config", path, "--filter", code), text)
-    write(path, Table(TOP, [LINK]).text)
-    write(code, "3,40 0 0 12,6 0 0 4294967295,6 0 0 0,")
-    text = f"table: {path}: 1 link, constant 50331648\nfilter: --filter: 3 instructions\nsound: yes\n"
-    judged("a filter", asked("--config", path, "--filter", code), text)
 
 
 # ---- recordings
@@ -664,27 +610,6 @@ def taps_and_cables():
     yield "one frame of other traffic", links, file_of(sorted(a + traffic[:1])), file_of(b)
 
 
-def of_holes(work):
-    """Zeros and noise within a file: what ends the recording isn't a time."""
-    links = [{"id": 5, "name": "brake", "bag_ms": 1, "jitter_us": 0, "smax": 200, "integrity": False, "redundancy": False, "skew_us": 0}]
-    config, path = write(os.path.join(work, "t.toml"), toml_of(links)), os.path.join(work, "a.pcap")
-    frames = [record(START + k * MS, frame(5, 60, k + 1)) for k in range(40)]
-    hole = "by more than a day: zeros or noise stand in the file there (a bad sector, a hole), or a clock was reset"
-    for name, there, why in (
-        ("512 zeros", bytes(512), f"timestamp out of order {hole}"),
-        ("16 zeros", bytes(16), f"timestamp out of order {hole}"),
-        ("ones", b"\xff" * 512, "captured length over 262144 bytes"),
-    ):
-        write(path, header() + b"".join(frames[:20]) + there + b"".join(frames[20:]))
-        ran = asked("--config", config, "--a", path)
-        wanted = f"fault: of network A no frame is read after 20 frames: {why}\n"
-        found = "".join(line + "\n" for line in ran.stdout.decode().splitlines() if line.startswith("fault: "))
-        say(f"check: {name} within a file", "" if found == wanted and ran.returncode == FAULT else ran.stdout.decode())
-        ran = run(["watch", "--config", config, "--a", path, "--ledger", os.path.join(work, "l")])
-        note = f"afdxmon: note: recording of network A ends bad after 20 frames: {why}"
-        say(f"check: {name} within a file, watch", difference(ran, SUCCESS, note))
-
-
 def statistics(interface, options, order="<"):
     """A pcapng block of an interface's statistics."""
     body = struct.pack(order + "III", interface, 0, 0)
@@ -707,170 +632,223 @@ def pcapng(interfaces, frames, order="<"):
     return out
 
 
-def of_drops(work):
-    """What recorders say at the ends of pcapng files of packets that they dropped."""
-    links = [{"id": 5, "name": "brake", "bag_ms": 1, "jitter_us": 0, "smax": 200, "integrity": False, "redundancy": False, "skew_us": 0}]
-    config, paths = write(os.path.join(work, "t.toml"), toml_of(links)), [os.path.join(work, name) for name in ("a.pcapng", "b.pcapng")]
-    frames = [(0, START + k * MS, frame(5, 60, k + 1)) for k in range(4)]
-    both = frames + [(1, START + k * MS, frame(5, 60, k + 1)) for k in range(4, 8)]
-    for order in "<>":
-        count = lambda number: struct.pack(order + "Q", number)
-        one = pcapng(["eth0"], frames, order)
-        two = pcapng(["eth0", "eth1"], both, order)
-        drops = statistics(0, [(2, count(1)), (4, count(900)), (5, count(400)), (7, count(75))], order)
-        of_second = statistics(1, [(5, count(3))], order)
-        for name, recording, choice, dropped in (
-            ("nothing", one, "", 0),
-            ("no drop", one + statistics(0, [(4, count(9)), (5, count(0))], order), "", 0),
-            ("drops of the interface and of the system", one + drops, "", 475),
-            ("one drop", one + statistics(0, [(5, count(1))], order), "", 1),
-            ("statistics without options", one + statistics(0, [], order), "", 0),
-            ("a count of four bytes", one + statistics(0, [(5, count(7)[:4])], order), "", 0),
-            ("a comment before the count", one + statistics(0, [(1, b"hello"), (5, count(2**40))], order), "", 2**40),
-            ("two blocks", one + drops + statistics(0, [(5, count(1))], order), "", 476),
-            ("a block of 4096 bytes", one + statistics(0, [(1, bytes(4052)), (5, count(6))], order), "", 6),
-            ("a block of 4100 bytes", one + statistics(0, [(1, bytes(4056)), (5, count(6))], order), "", 0),
-            ("the first interface", two + drops + of_second, ":0", 475),
-            ("the second interface", two + drops + of_second, ":1", 3),
-            ("the second interface by its name", two + drops + of_second, ":eth1", 3),
-            ("statistics before packets", pcapng(["eth0"], [], order) + drops + pcapng(["eth0"], frames, order), "", 0),
-            ("a pcap file that ends like statistics", header() + record(START, frame(5, 60, 1)) + record(START + 1, drops.ljust(100, b"\0")[-100:] + drops), "", 0),
+class Check(Case):
+    def judged(self, name, ran, text, line=None):
+        """An answer: its text whole, and the status and standard error that go with it."""
+        sound = "\nsound: yes" in text
+        fault = difference(ran, SUCCESS if sound else FAULT, ("" if sound else UNSOUND) if line is None else line)
+        self.case(f"check: {name}", fault or first_difference(ran.stdout.decode(), text))
+
+    def test_of_tables(self):
+        path = os.path.join(self.folder, "t.toml")
+        for name, table in tables():
+            write(path, table.text)
+            self.judged(name, asked("--config", path), text_of_table(path, table))
+            ran = asked("--config", path, "--json")
+            answer, faults = json.loads(ran.stdout), faults_of(table)
+            fits = answer["table"]["faults"] == faults[:100] and answer["table"]["fault_count"] == len(faults) and answer["sound"] == (not faults)
+            self.case(f"check: {name}, as JSON", "" if fits else f"{answer['table']} is not {faults[:3]}")
+
+    def test_of_wide_tables(self):
+        """Tables whose faults are no key's, and links in other forms."""
+        path = os.path.join(self.folder, "t.toml")
+        write(path, "constant = 50331648\nlink = [\n  { id = 5, bag_ms = 3 },\n  7,\n]\n")
+        missing = [key for key in LINK_KEYS if key not in ("id", "bag_ms")]
+        text = f"table: {path}: 8 faults\nfault: {path}:2:1: link = a value of type array: {texts.ALLOWED['link']}\n"
+        text += "".join(f"fault: {path}:3:3: link 0, id 5: {key} is missing: {texts.ALLOWED[key]}\n" for key in missing)
+        text += f"fault: {path}:3:13: link 0, id 5: bag_ms = 3: {texts.ALLOWED['bag_ms']}\nsound: no, 8 faults and 0 questions\n"
+        self.judged("links as inline tables, one of them none", asked("--config", path), text)
+        write(path, "constant = 50331648\nlate_us == 1\n")
+        ran = asked("--config", path)
+        self.case("check: a text that is no TOML", difference(ran, FAULT, UNSOUND) or ("" if ran.stdout.startswith(f"table: {path}: 1 fault\nfault: {path}:2:".encode()) else repr(ran.stdout)))
+        many = Table(TOP, [{**LINK, "id": str(k), "name": f'"l{k}"'} for k in range(4097)])
+        write(path, many.text)
+        line, _ = many.places[4096, None]
+        text = f"table: {path}: 1 fault\nfault: {path}:{line}:1: 4097 links and 0 filters: at most 4096 links and 7 filters\nsound: no, 1 fault and 0 questions\n"
+        self.judged("4097 links", asked("--config", path), text)
+        write(path, Table({**TOP, "filters": str(["1,6 0 0 0,"] * 8).replace("'", '"')}, [LINK]).text)
+        text = f"table: {path}: 1 fault\nfault: {path}:3:1: 1 link and 8 filters: at most 4096 links and 7 filters\nsound: no, 1 fault and 0 questions\n"
+        self.judged("eight filters", asked("--config", path), text)
+
+    def test_of_filters(self):
+        path, code = os.path.join(self.folder, "t.toml"), os.path.join(self.folder, "f.bpf")
+        write(path, Table({**TOP, "filters": '["1,6 0 0 0,", "2,6 0 0 0,255 0 0 0,", "x"]'}, [LINK]).text)
+        write(code, "2,5 0 0 1,6 0 0 0,")
+        text = f"table: {path}: 1 link, constant 50331648\nfault: load 7 Jump at 0\nfilter: 1 of the table: 1 instruction\n"
+        text += "fault: load 2 UnknownCode at 1 filter 2\nfault: numeric 1 Character at 0 filter 3\nsound: no, 3 faults and 0 questions\n"
+        self.judged("three filters that are refused", asked("--config", path, "--filter", code), text)
+        write(path, Table(TOP, [LINK]).text)
+        write(code, "3,40 0 0 12,6 0 0 4294967295,6 0 0 0,")
+        text = f"table: {path}: 1 link, constant 50331648\nfilter: --filter: 3 instructions\nsound: yes\n"
+        self.judged("a filter", asked("--config", path, "--filter", code), text)
+
+    def test_of_holes(self):
+        """Zeros and noise within a file: what ends the recording isn't a time."""
+        links = [{"id": 5, "name": "brake", "bag_ms": 1, "jitter_us": 0, "smax": 200, "integrity": False, "redundancy": False, "skew_us": 0}]
+        config, path = write(os.path.join(self.folder, "t.toml"), toml_of(links)), os.path.join(self.folder, "a.pcap")
+        frames = [record(START + k * MS, frame(5, 60, k + 1)) for k in range(40)]
+        hole = "by more than a day: zeros or noise stand in the file there (a bad sector, a hole), or a clock was reset"
+        for name, there, why in (
+            ("512 zeros", bytes(512), f"timestamp out of order {hole}"),
+            ("16 zeros", bytes(16), f"timestamp out of order {hole}"),
+            ("ones", b"\xff" * 512, "captured length over 262144 bytes"),
         ):
-            write(paths[0], recording)
-            ran = asked("--config", config, "--a", paths[0] + choice)
-            wanted = f"note: the recorder of network A dropped {counted(dropped, 'packet')}\n" if dropped else ""
-            found = "".join(line + "\n" for line in ran.stdout.decode().splitlines() if " dropped " in line)
-            say(f"check: dropped, {name}, {order}", "" if found == wanted else f"{found!r}, not {wanted!r}; {ran.stdout}")
-            answer = json.loads(asked("--config", config, "--a", paths[0] + choice, "--json").stdout)
-            say(f"check: dropped, {name}, {order}, as JSON", "" if answer["a"]["dropped"] == dropped else str(answer["a"]))
-        write(paths[0], one + drops)
-        write(paths[1], pcapng(["eth0"], [(0, stamp + 10**9, data) for _, stamp, data in frames], order) + statistics(0, [(7, count(25))], order))
-        ran = asked("--config", config, "--a", paths[0], paths[1])
-        say(f"check: dropped, of two files, {order}", "" if b"note: the recorder of network A dropped 500 packets\n" in ran.stdout else str(ran.stdout))
+            write(path, header() + b"".join(frames[:20]) + there + b"".join(frames[20:]))
+            ran = asked("--config", config, "--a", path)
+            wanted = f"fault: of network A no frame is read after 20 frames: {why}\n"
+            found = "".join(line + "\n" for line in ran.stdout.decode().splitlines() if line.startswith("fault: "))
+            self.case(f"check: {name} within a file", "" if found == wanted and ran.returncode == FAULT else ran.stdout.decode())
+            ran = run(["watch", "--config", config, "--a", path, "--ledger", os.path.join(self.folder, "l")])
+            note = f"afdxmon: note: recording of network A ends bad after 20 frames: {why}"
+            self.case(f"check: {name} within a file, watch", difference(ran, SUCCESS, note))
 
+    def test_of_drops(self):
+        """What recorders say at the ends of pcapng files of packets that they dropped."""
+        links = [{"id": 5, "name": "brake", "bag_ms": 1, "jitter_us": 0, "smax": 200, "integrity": False, "redundancy": False, "skew_us": 0}]
+        config, paths = write(os.path.join(self.folder, "t.toml"), toml_of(links)), [os.path.join(self.folder, name) for name in ("a.pcapng", "b.pcapng")]
+        frames = [(0, START + k * MS, frame(5, 60, k + 1)) for k in range(4)]
+        both = frames + [(1, START + k * MS, frame(5, 60, k + 1)) for k in range(4, 8)]
+        for order in "<>":
+            count = lambda number: struct.pack(order + "Q", number)
+            one = pcapng(["eth0"], frames, order)
+            two = pcapng(["eth0", "eth1"], both, order)
+            drops = statistics(0, [(2, count(1)), (4, count(900)), (5, count(400)), (7, count(75))], order)
+            of_second = statistics(1, [(5, count(3))], order)
+            for name, recording, choice, dropped in (
+                ("nothing", one, "", 0),
+                ("no drop", one + statistics(0, [(4, count(9)), (5, count(0))], order), "", 0),
+                ("drops of the interface and of the system", one + drops, "", 475),
+                ("one drop", one + statistics(0, [(5, count(1))], order), "", 1),
+                ("statistics without options", one + statistics(0, [], order), "", 0),
+                ("a count of four bytes", one + statistics(0, [(5, count(7)[:4])], order), "", 0),
+                ("a comment before the count", one + statistics(0, [(1, b"hello"), (5, count(2**40))], order), "", 2**40),
+                ("two blocks", one + drops + statistics(0, [(5, count(1))], order), "", 476),
+                ("a block of 4096 bytes", one + statistics(0, [(1, bytes(4052)), (5, count(6))], order), "", 6),
+                ("a block of 4100 bytes", one + statistics(0, [(1, bytes(4056)), (5, count(6))], order), "", 0),
+                ("the first interface", two + drops + of_second, ":0", 475),
+                ("the second interface", two + drops + of_second, ":1", 3),
+                ("the second interface by its name", two + drops + of_second, ":eth1", 3),
+                ("statistics before packets", pcapng(["eth0"], [], order) + drops + pcapng(["eth0"], frames, order), "", 0),
+                ("a pcap file that ends like statistics", header() + record(START, frame(5, 60, 1)) + record(START + 1, drops.ljust(100, b"\0")[-100:] + drops), "", 0),
+            ):
+                write(paths[0], recording)
+                ran = asked("--config", config, "--a", paths[0] + choice)
+                wanted = f"note: the recorder of network A dropped {counted(dropped, 'packet')}\n" if dropped else ""
+                found = "".join(line + "\n" for line in ran.stdout.decode().splitlines() if " dropped " in line)
+                self.case(f"check: dropped, {name}, {order}", "" if found == wanted else f"{found!r}, not {wanted!r}; {ran.stdout}")
+                answer = json.loads(asked("--config", config, "--a", paths[0] + choice, "--json").stdout)
+                self.case(f"check: dropped, {name}, {order}, as JSON", "" if answer["a"]["dropped"] == dropped else str(answer["a"]))
+            write(paths[0], one + drops)
+            write(paths[1], pcapng(["eth0"], [(0, stamp + 10**9, data) for _, stamp, data in frames], order) + statistics(0, [(7, count(25))], order))
+            ran = asked("--config", config, "--a", paths[0], paths[1])
+            self.case(f"check: dropped, of two files, {order}", "" if b"note: the recorder of network A dropped 500 packets\n" in ran.stdout else str(ran.stdout))
 
-def of_recordings(work):
-    config, paths = os.path.join(work, "t.toml"), {network: os.path.join(work, f"{network}.pcap") for network in "AB"}
-    for name, links, a, b in (*pairs(), *taps_and_cables()):
-        write(config, toml_of(links))
-        given, recordings = ["--config", config], {}
-        for network, recording in (("A", a), ("B", b)):
-            if recording is not None:
-                given += [f"--{network.lower()}", write(paths[network], recording)]
-                recordings[network] = (paths[network], recording)
-        text = expected(config, links, recordings)
-        judged(name, asked(*given), text)
-        answer = json.loads(asked(*given, "--json").stdout)
-        told = [f"question: {one['text']}\n" for one in answer["questions"]]
-        fits = "".join(told) in text and len(told) == text.count("question: ") and answer["sound"] == text.endswith("yes\n")
-        fits = fits and [link["id"] for link in answer["links"]] == sorted(link["id"] for link in links)
-        say(f"check: {name}, as JSON", "" if fits else json.dumps(answer)[:600])
+    def test_of_recordings(self):
+        config, paths = os.path.join(self.folder, "t.toml"), {network: os.path.join(self.folder, f"{network}.pcap") for network in "AB"}
+        for name, links, a, b in (*pairs(), *taps_and_cables()):
+            write(config, toml_of(links))
+            given, recordings = ["--config", config], {}
+            for network, recording in (("A", a), ("B", b)):
+                if recording is not None:
+                    given += [f"--{network.lower()}", write(paths[network], recording)]
+                    recordings[network] = (paths[network], recording)
+            text = expected(config, links, recordings)
+            self.judged(name, asked(*given), text)
+            answer = json.loads(asked(*given, "--json").stdout)
+            told = [f"question: {one['text']}\n" for one in answer["questions"]]
+            fits = "".join(told) in text and len(told) == text.count("question: ") and answer["sound"] == text.endswith("yes\n")
+            fits = fits and [link["id"] for link in answer["links"]] == sorted(link["id"] for link in links)
+            self.case(f"check: {name}, as JSON", "" if fits else json.dumps(answer)[:600])
 
+    def test_of_disorder(self):
+        """A frame out of order, by how much, and the `late_us` of the table that takes it: with that the recording is read whole."""
+        links = [{"id": 5, "name": "brake", "bag_ms": 1, "jitter_us": 0, "smax": 200, "integrity": False, "redundancy": False, "skew_us": 0}]
+        config, path = os.path.join(self.folder, "t.toml"), os.path.join(self.folder, "a.pcap")
+        for late, told in (
+            (999, " by 999 ns (late_us = 1 of the table takes it)"),
+            (1000, " by 1 us (late_us = 1 of the table takes it)"),
+            (1001, " by 1 us (late_us = 2 of the table takes it)"),
+            (10**9, " by 1.000 s (late_us = 1000000 of the table takes it)"),
+            (10**9 + 1, " by 1.000 s"),
+            (86_400 * 10**9 - 1, " by 86399.999 s"),
+            (86_400 * 10**9, " by more than a day: zeros or noise stand in the file there (a bad sector, a hole), or a clock was reset"),
+        ):
+            stamps = (START, START + 2 * 10**9, START + 2 * 10**9 - late, START + 3 * 10**9)
+            recording = header() + b"".join(record(stamp, frame(5, 60, i + 1)) for i, stamp in enumerate(stamps))
+            write(path, recording)
+            for window in (0, -(-late // 1000)):
+                write(config, toml_of(links, late=min(window, 10**6)))
+                line = "" if 0 < window <= 10**6 else f"fault: of network A no frame is read after 2 frames: timestamp out of order{told}\n"
+                for what, a, how in (("a file", path, {}), ("a pipe", "-", {"input": recording})):
+                    ran = asked("--config", config, "--a", a, **how)
+                    found = "".join(line + "\n" for line in ran.stdout.decode().splitlines() if line.startswith("fault: "))
+                    fits = found == line and ran.returncode == (FAULT if line else SUCCESS)
+                    self.case(f"check: a frame late by {late} ns, late_us {window}, of {what}", "" if fits else ran.stdout.decode())
 
-def of_disorder(work):
-    """A frame out of order, by how much, and the `late_us` of the table that takes it: with that the recording is read whole."""
-    links = [{"id": 5, "name": "brake", "bag_ms": 1, "jitter_us": 0, "smax": 200, "integrity": False, "redundancy": False, "skew_us": 0}]
-    config, path = os.path.join(work, "t.toml"), os.path.join(work, "a.pcap")
-    for late, told in (
-        (999, " by 999 ns (late_us = 1 of the table takes it)"),
-        (1000, " by 1 us (late_us = 1 of the table takes it)"),
-        (1001, " by 1 us (late_us = 2 of the table takes it)"),
-        (10**9, " by 1.000 s (late_us = 1000000 of the table takes it)"),
-        (10**9 + 1, " by 1.000 s"),
-        (86_400 * 10**9 - 1, " by 86399.999 s"),
-        (86_400 * 10**9, " by more than a day: zeros or noise stand in the file there (a bad sector, a hole), or a clock was reset"),
-    ):
-        stamps = (START, START + 2 * 10**9, START + 2 * 10**9 - late, START + 3 * 10**9)
-        recording = header() + b"".join(record(stamp, frame(5, 60, i + 1)) for i, stamp in enumerate(stamps))
-        write(path, recording)
-        for window in (0, -(-late // 1000)):
-            write(config, toml_of(links, late=min(window, 10**6)))
-            line = "" if 0 < window <= 10**6 else f"fault: of network A no frame is read after 2 frames: timestamp out of order{told}\n"
-            for what, a, how in (("a file", path, {}), ("a pipe", "-", {"input": recording})):
-                ran = asked("--config", config, "--a", a, **how)
-                found = "".join(line + "\n" for line in ran.stdout.decode().splitlines() if line.startswith("fault: "))
-                fits = found == line and ran.returncode == (FAULT if line else SUCCESS)
-                say(f"check: a frame late by {late} ns, late_us {window}, of {what}", "" if fits else ran.stdout.decode())
+    def test_of_inputs(self):
+        """Standard input, pcapng, damaged files, a terminal and a full output."""
+        chance = random.Random(41)
+        links = links_of(chance, 3)
+        a, b = (file_of(tap) for tap in sent(chance, links, 40))
+        config, paths = write(os.path.join(self.folder, "t.toml"), toml_of(links)), [os.path.join(self.folder, name) for name in ("a.pcap", "b.pcap", "a.pcapng", "no.pcap")]
+        write(paths[0], a)
+        write(paths[1], b)
+        text = expected(config, links, {"A": (paths[0], a), "B": (paths[1], b)})
+        for option, path, content in (("--config", config, toml_of(links).encode()), ("--a", paths[0], a), ("--b", paths[1], b)):
+            given = {"--config": config, "--a": paths[0], "--b": paths[1], option: "-"}
+            ran = asked(*(word for pair in given.items() for word in pair), input=content)
+            self.judged(f"{option} from standard input", ran, text.replace(f" {path}:", " standard input:"))
+        ran = asked("--config", "-", "--a", "-", input=b"")
+        self.case("check: standard input twice", difference(ran, FAULT, "afdxmon: file --a", b""))
+        run(["capture", "--code", "1,6 0 0 4294967295,", paths[0], "-o", paths[2], "--pcapng"])
+        self.judged("a pcapng recording", asked("--config", config, "--a", paths[2], "--b", paths[1]),
+               expected(config, links, {"A": (paths[2], a), "B": (paths[1], b)}, kinds=(("A", "pcapng"),)))
+        write(paths[3], b"no recording, but some bytes")
+        text = f"table: {config}: 3 links, constant 50331648\nfault: watch 2 Header B 2 Magic\nsound: no, 1 fault and 0 questions\n"
+        self.judged("a file that is no recording", asked("--config", config, "--a", paths[0], "--b", paths[3]), text)
+        packed = write(os.path.join(self.folder, "b.pcap.gz"), b"\x1f\x8b\x08\0" + bytes(30))
+        ran = run(["check", "--config", config, "--a", paths[0], "--b", packed, "-v"], stdout=subprocess.PIPE)
+        told = f"{UNSOUND}\na run with these inputs would not be sound: the answer says why\n{packed}: compressed by gzip: --b <(zcat {packed})\n"
+        self.case("check: a compressed recording, in full", difference(ran, FAULT, lambda said: said == told, text.encode()))
+        for option in ("--config", "--filter", "--a", "--b"):
+            given = {"--config": config, option: os.path.join(self.folder, "absent")}
+            self.case(f"check: {option} that isn't there", difference(asked(*(word for pair in given.items() for word in pair)), FAULT, f"afdxmon: file {option}", b""))
+        with open("/dev/full", "wb") as full:
+            ran = run(["check", "--config", config], stdout=full)
+        self.case("check: a full output", difference(ran, FAULT, "afdxmon: file -"))
+        with open("/dev/full", "wb") as full:
+            ran = run(["check", "--config", config, "-v"], stdout=full)
+        self.case("check: a full output, in full", difference(ran, FAULT, f"afdxmon: file -\nstandard output: {texts.FULL}"))
+        write(config, toml_of(links).replace("bag_ms = ", "bag_ms = 3 #"))
+        ran = run_at_terminal(["check", "--config", config])
+        advice = "a run with these inputs would not be sound: the answer says why"
+        self.case("check: an unsound run at a terminal", "" if ran.returncode == FAULT and ran.stderr == f"{UNSOUND}\n{advice}\n" else repr(ran.stderr))
 
-
-def of_inputs(work):
-    """Standard input, pcapng, damaged files, a terminal and a full output."""
-    chance = random.Random(41)
-    links = links_of(chance, 3)
-    a, b = (file_of(tap) for tap in sent(chance, links, 40))
-    config, paths = write(os.path.join(work, "t.toml"), toml_of(links)), [os.path.join(work, name) for name in ("a.pcap", "b.pcap", "a.pcapng", "no.pcap")]
-    write(paths[0], a)
-    write(paths[1], b)
-    text = expected(config, links, {"A": (paths[0], a), "B": (paths[1], b)})
-    for option, path, content in (("--config", config, toml_of(links).encode()), ("--a", paths[0], a), ("--b", paths[1], b)):
-        given = {"--config": config, "--a": paths[0], "--b": paths[1], option: "-"}
-        ran = asked(*(word for pair in given.items() for word in pair), input=content)
-        judged(f"{option} from standard input", ran, text.replace(f" {path}:", " standard input:"))
-    ran = asked("--config", "-", "--a", "-", input=b"")
-    say("check: standard input twice", difference(ran, FAULT, "afdxmon: file --a", b""))
-    run(["capture", "--code", "1,6 0 0 4294967295,", paths[0], "-o", paths[2], "--pcapng"])
-    judged("a pcapng recording", asked("--config", config, "--a", paths[2], "--b", paths[1]),
-           expected(config, links, {"A": (paths[2], a), "B": (paths[1], b)}, kinds=(("A", "pcapng"),)))
-    write(paths[3], b"no recording, but some bytes")
-    text = f"table: {config}: 3 links, constant 50331648\nfault: watch 2 Header B 2 Magic\nsound: no, 1 fault and 0 questions\n"
-    judged("a file that is no recording", asked("--config", config, "--a", paths[0], "--b", paths[3]), text)
-    packed = write(os.path.join(work, "b.pcap.gz"), b"\x1f\x8b\x08\0" + bytes(30))
-    ran = run(["check", "--config", config, "--a", paths[0], "--b", packed, "-v"], stdout=subprocess.PIPE)
-    told = f"{UNSOUND}\na run with these inputs would not be sound: the answer says why\n{packed}: compressed by gzip: --b <(zcat {packed})\n"
-    say("check: a compressed recording, in full", difference(ran, FAULT, lambda said: said == told, text.encode()))
-    for option in ("--config", "--filter", "--a", "--b"):
-        given = {"--config": config, option: os.path.join(work, "absent")}
-        say(f"check: {option} that isn't there", difference(asked(*(word for pair in given.items() for word in pair)), FAULT, f"afdxmon: file {option}", b""))
-    with open("/dev/full", "wb") as full:
-        ran = run(["check", "--config", config], stdout=full)
-    say("check: a full output", difference(ran, FAULT, "afdxmon: file -"))
-    with open("/dev/full", "wb") as full:
-        ran = run(["check", "--config", config, "-v"], stdout=full)
-    say("check: a full output, in full", difference(ran, FAULT, f"afdxmon: file -\nstandard output: {texts.FULL}"))
-    write(config, toml_of(links).replace("bag_ms = ", "bag_ms = 3 #"))
-    ran = run_at_terminal(["check", "--config", config])
-    advice = "a run with these inputs would not be sound: the answer says why"
-    say("check: an unsound run at a terminal", "" if ran.returncode == FAULT and ran.stderr == f"{UNSOUND}\n{advice}\n" else repr(ran.stderr))
-
-
-def of_long_recordings(work):
-    """Of more than 10^6 frames the first are read; the others may be anything."""
-    links = [{"id": 5, "name": "brake", "bag_ms": 1, "jitter_us": 0, "smax": 200, "integrity": False, "redundancy": False, "skew_us": 0}]
-    config, paths = write(os.path.join(work, "t.toml"), toml_of(links)), [os.path.join(work, name) for name in ("a.pcap", "b.pcap")]
-    one, goes_on = record(START, frame(5, 60, 1)), "it goes on, and no more was read"
-    many = record(START + 9, frame(5, 60, 2))
-    for name, more, goes_on, part in (
-        ("10^6 frames", b"", "it ends clean", ""),
-        ("a frame more", many, goes_on, " (99 %)"),
-        ("as many more", many * 10**6, goes_on, " (50 %)"),
-        ("as many more, of a pipe", many * 10**6, goes_on, ""),
-    ):
-        with open(paths[0], "wb") as file:
-            file.write(header() + one * 10**6 + more)
-        write(paths[1], header() + record(START + 5, frame(5, 60, 1)))
-        text = f"table: {config}: 1 link, constant 50331648\n"
-        text += f"network A: {paths[0]}: pcap, little-endian, nanoseconds; 1000000 frames, {moment(START)} to {moment(START)}; {goes_on}\n"
-        text += f"network B: {paths[1]}: pcap, little-endian, nanoseconds; 1 frame, {moment(START + 5)} to {moment(START + 5)}; it ends clean\n"
-        text += f"overlap: not within what was read of the recordings\nsound: yes; of A by its first 1000000 frames{part}\n" if more else "overlap: none\nquestion: do the recordings belong together? One ends before the other begins\nsound: no, 0 faults and 1 question\n"
-        if name.endswith("pipe"):
-            with open(paths[0], "rb") as given:
-                piped = subprocess.Popen(["cat"], stdin=given, stdout=subprocess.PIPE)
-            ran = asked("--config", config, "--a", "-", "--b", paths[1], stdin=piped.stdout)
-            piped.stdout.close()
-            piped.wait()
-            judged(name, ran, text.replace(f" {paths[0]}:", " standard input:"))
-            continue
-        judged(name, asked("--config", config, "--a", paths[0], "--b", paths[1]), text)
-
-
-def cases():
-    with tempfile.TemporaryDirectory() as work:
-        of_tables(work)
-        of_wide_tables(work)
-        of_filters(work)
-        of_recordings(work)
-        of_disorder(work)
-        of_holes(work)
-        of_drops(work)
-        of_inputs(work)
-        of_long_recordings(work)
+    def test_of_long_recordings(self):
+        """Of more than 10^6 frames the first are read; the others may be anything."""
+        links = [{"id": 5, "name": "brake", "bag_ms": 1, "jitter_us": 0, "smax": 200, "integrity": False, "redundancy": False, "skew_us": 0}]
+        config, paths = write(os.path.join(self.folder, "t.toml"), toml_of(links)), [os.path.join(self.folder, name) for name in ("a.pcap", "b.pcap")]
+        one, goes_on = record(START, frame(5, 60, 1)), "it goes on, and no more was read"
+        many = record(START + 9, frame(5, 60, 2))
+        for name, more, goes_on, part in (
+            ("10^6 frames", b"", "it ends clean", ""),
+            ("a frame more", many, goes_on, " (99 %)"),
+            ("as many more", many * 10**6, goes_on, " (50 %)"),
+            ("as many more, of a pipe", many * 10**6, goes_on, ""),
+        ):
+            with open(paths[0], "wb") as file:
+                file.write(header() + one * 10**6 + more)
+            write(paths[1], header() + record(START + 5, frame(5, 60, 1)))
+            text = f"table: {config}: 1 link, constant 50331648\n"
+            text += f"network A: {paths[0]}: pcap, little-endian, nanoseconds; 1000000 frames, {moment(START)} to {moment(START)}; {goes_on}\n"
+            text += f"network B: {paths[1]}: pcap, little-endian, nanoseconds; 1 frame, {moment(START + 5)} to {moment(START + 5)}; it ends clean\n"
+            text += f"overlap: not within what was read of the recordings\nsound: yes; of A by its first 1000000 frames{part}\n" if more else "overlap: none\nquestion: do the recordings belong together? One ends before the other begins\nsound: no, 0 faults and 1 question\n"
+            if name.endswith("pipe"):
+                with open(paths[0], "rb") as given:
+                    piped = subprocess.Popen(["cat"], stdin=given, stdout=subprocess.PIPE)
+                ran = asked("--config", config, "--a", "-", "--b", paths[1], stdin=piped.stdout)
+                piped.stdout.close()
+                piped.wait()
+                self.judged(name, ran, text.replace(f" {paths[0]}:", " standard input:"))
+                continue
+            self.judged(name, asked("--config", config, "--a", paths[0], "--b", paths[1]), text)

@@ -11,16 +11,15 @@ import os
 import random
 import re
 import subprocess
-import tempfile
 import threading
 
-import pairs
-from analyser import table_of
-from harness import EVERY, FAULT, SUCCESS, USAGE, PROGRAM, difference, frame, header, record, run, say
-from reference import HEADER, parse, record_of
-from streams import at_terminal
-from texts import TO_A_TERMINAL
-from watching import TABLE, tap
+from tests import pairs
+from tests.analyser import table_of
+from tests.harness import EVERY, FAULT, PROGRAM, SUCCESS, USAGE, Case, difference, frame, header, record, run
+from tests.reference import HEADER, parse, record_of
+from tests.streams import at_terminal
+from tests.texts import TO_A_TERMINAL
+from tests.watching import TABLE, tap
 
 # Every line that standard error may have: the words are settled here, and nowhere else in these tests.
 LINES = {
@@ -262,25 +261,6 @@ def told_of(*lines):
     return "\n".join(line for line in lines if line)
 
 
-def compared(bench, name, options, config, a, b, networks="ab", line=""):
-    """A cut that has to succeed: its packets and its lines, without those of a network that has no recording, and all lines without recordings.
-    A name that no link has is refused, and a span that ends before it begins."""
-    ledger = bench.read("ledger")
-    wrong = refused_option(options, config)
-    if wrong:
-        told = LINES["selection"].format(*wrong)
-        fault = difference(bench.cut(options, networks), FAULT, told, b"") or difference(bench.cut(options, "", "--ledger-only"), FAULT, told, b"")
-        return say(f"cut: {name}: --{wrong[0]} is refused", fault)
-    lines = chosen(ledger, options, config)
-    read = "".join(one for one in lines if one.split()[1].lower() in networks).encode()
-    told = told_of(notes_of(ledger, options, lines, networks), line)
-    fault = difference(bench.cut(options, networks), SUCCESS, told, packets_of(lines, recordings_of(a, b, networks)))
-    fault = fault or difference(bench.cut(options, networks, "--ledger-only"), SUCCESS, told, read)
-    alone = told_of(notes_of(ledger, options, lines, ""), line)
-    fault = fault or difference(bench.cut(options, "", "--ledger-only"), SUCCESS, alone, "".join(lines).encode())
-    say(f"cut: {name}: {' '.join(f'--{key} {value}' for key, value in options.items())}", fault)
-
-
 def times_of(chance, ledger):
     """A frame's moment, one nanosecond before it, or one after it, as a person may write it."""
     lines = frame_lines(ledger)
@@ -321,25 +301,6 @@ def some_options(chance, ledger, config):
     return {name: make[name]() for name in names if name != "span" or "to" not in names}
 
 
-def generated(bench):
-    """Selections over small pairs: late, equal and missing timestamps, each class and verdict."""
-    used = set()
-    for seed in range(60):
-        chance = random.Random(seed)
-        config, code, a, b = pairs.pair(chance)
-        ledger = bench.watched(config, code, a, b)
-        for _ in range(3):
-            options = some_options(chance, ledger, config)
-            used.update(options)
-            compared(bench, f"pair {seed}", options, config, a, b)
-        network = chance.choice("ab")
-        compared(bench, f"pair {seed}, network {network.upper()}", {"network": network.upper()}, config, a, b, network)
-        alone = {"a": (a, HEADER), "b": (HEADER, b)}[network]
-        bench.watched(config, code, *alone)
-        compared(bench, f"pair {seed}, network {network.upper()} alone", some_options(chance, ledger, config), config, *alone, network)
-    say("cut: each option is tried", "" if used == set(OPTIONS) else f"without {set(OPTIONS) - used}")
-
-
 # Times of a day that begins at 10^18 - 10^18 % DAY, and a link of three frames on each network.
 NOON = 1_800_000_000 * 10**9 // DAY * DAY + DAY // 2
 
@@ -351,189 +312,6 @@ def small():
     return a, b
 
 
-def bounds(bench):
-    """Each option at its bounds, on frames of which each has its own time."""
-    a, b = small()
-    bench.watched(TABLE, EVERY, a, b)
-    two = NOON + 2 * 10**9
-    cases = [{}]
-    cases += [{end: text} for end in ("from", "to") for time in (two - 1, two, two + 1, two + 2) for text in (str(time), written(time), written(time)[11:29])]
-    cases += [{"from": "12:00:02", "to": "12:00:02"}, {"from": "00:00:00", "to": "23:59:59.999999999"}, {"from": "12:00:02.0", "to": "12:00:02.000000001"}]
-    cases += [{"from": str(two + 1), "to": str(two)}, {"from": "0", "to": str(2**32 * 10**9 - 1)}]
-    cases += [{"from": first, "to": last} for first in (written(two + 1), "12:00:02.000000001") for last in (written(two), "12:00:02", str(two))]
-    cases += [{end: text} for end in ("from", "to") for text in ("+0", "+2", "+2.0", "+1.999999999", "+2.000000001", "+2.000000002", "+4", "+4.000000001", "+4294967295.999999999")]
-    cases += [{"from": "+1", "to": text} for text in ("+1", "+2", "+0.999999999", "12:00:02", "12:00:00", str(two), written(two))]
-    cases += [{"to": text} for text in ("12:00:00", "11:59:59.999999999", "12:00:00.000000001", "00:00:00", "23:59:59.999999999")]
-    cases += [{"from": text} for text in ("11:59:59.999999999", "00:00:00", "23:59:59.999999999")]
-    cases += [{"from": "12:00:01", "to": "12:00:00.999999999"}, {"from": "11:00:00", "to": "11:59:59"}, {"from": "11:00:00", "to": "12:00:00"}, {"from": written(two), "to": "12:00:01"}]
-    spans = ("0s", "0.000000001s", "2s", "2.000000001s", "1.999999999s", "2000ms", "1999.999999ms", "2000000us", "2000000.001us", "0us", "4294967295.999999999s", "86399s", "86400s", "43200s")
-    cases += [{**start, "span": text} for start in ({}, {"from": "+0"}, {"from": "+2"}, {"from": str(two)}, {"from": "12:00:02"}, {"from": "11:59:58"}, {"from": "00:00:00"}, {"from": str(2**32 * 10**9 - 1)})
-              for text in spans]
-    cases += [{"verdict": text} for text in ("faults", "faults,copy", "discarded,faults")]
-    cases += [{"link": text} for text in ("5", "5-5", "4-5", "5-6", "6", "4", "7-65535", "0-4,6-65535", "brake", "br*", "*", "b*e", "br*ake", "*rak", "6,brake")]
-    cases += [{"network": "A"}, {"network": "B"}, {"verdict": "first"}, {"verdict": "next,unconfigured"}, {"verdict": "discarded"}, {"verdict": "delivered"}, {"verdict": "regular"}]
-    cases += [{"filters": "01"}, {"filters": "fe"}, {"filters": "03"}]
-    cases += [{"link": "5", "network": "B", "verdict": "copy", "from": str(two), "to": str(two + 1), "filters": "01"}]
-    cases += [{"around": text, **more} for text in ("0", "1", "2", "3", "4", "5", "6", "65534", "65535") for more in ({}, {"verdict": "first"}, {"from": str(two), "to": str(two)}, {"link": "6"})]
-    for options in cases:
-        compared(bench, "bounds", options, TABLE, a, b)
-    for network in "ab":
-        for options in ({}, {"network": "A"}, {"network": "B"}, {"verdict": "copy"}, {"link": "6"}, {"from": "+4"}, {"from": "+2", "around": "1"}, {"verdict": "runt"}):
-            compared(bench, f"recording {network.upper()} alone", options, TABLE, a, b, network)
-
-
-def midnight(bench):
-    """A run across midnight, by times of day alone, and one that begins just after it."""
-    for first in (NOON + DAY // 2 - 10 * 10**9, NOON + DAY // 2 - 2 * 10**9 + 1, NOON + DAY // 2, NOON + DAY // 2 + 10**9, 0, 10**9):
-        packets = [(first + second * 10**9, frame(5, 60, second % 255 + 1)) for second in range(30)]
-        a = tap(*packets)
-        bench.watched(TABLE, EVERY, a, HEADER)
-        ends = ("23:59:58", "23:59:58.000000001", "00:00:00", "00:00:02", "00:00:06", "12:00:00")
-        cases = [{"from": start, "to": end} for start in ends for end in ends] + [{end: text} for end in ("from", "to") for text in ends]
-        cases += [{"from": start, "span": span} for start in ends for span in ("0s", "2s", "8s", "86400s")]
-        cases += [{"from": start, "to": end} for start in ends for end in ("+4", str(first + 8 * 10**9))]
-        for options in cases:
-            compared(bench, f"from {written(first)}", options, TABLE, a, HEADER, "a")
-
-
-def every_fault(bench):
-    """`faults` takes each discard but copies, on a ledger that has each word of fields 6 to 9."""
-    fields = {"cut": "cut - - -", "runt": "runt - - -", "oversize": "oversize - - -", "foreign": "foreign - - -", "unconfigured": "unconfigured - - -",
-              "toolong": "toolong - - -", "excess": "regular excess - -", "out": "regular within out -", "copy": "regular within next copy",
-              "deliver": "regular within skip deliver", "both": "regular within off both"}
-    linked = {word for word in fields if word not in ("cut", "runt", "oversize", "foreign")}
-    lines = [f"{NOON + at} A {at} {'5' if word in linked else '-'} {'1' if word in linked else '-'} {text} - 00\n"
-             for at, (word, text) in enumerate(fields.items())]
-    bench.put(ledger="afdx-ledger 2\n" + "".join(lines))
-    taken = [line for line, word in zip(lines, fields) if word not in ("copy", "deliver", "both")]
-    ran = bench.cut({"verdict": "faults"}, "", "--ledger-only")
-    told = stopped(bench.path("ledger"), bench.read("ledger"))
-    say("cut: --verdict faults, each word", difference(ran, SUCCESS, told, "".join(taken).encode()))
-
-
-def late(bench):
-    """A late frame stands earlier in the ledger than in its recording, which is read whole for it."""
-    a = tap((NOON, frame(5, 60, 1)), (NOON + 2000, frame(5, 60, 3)), (NOON + 1000, frame(5, 60, 2)), (NOON + 2000, frame(5, 60, 4)))
-    config = "late_us = 1\n" + TABLE
-    bench.watched(config, EVERY, a, HEADER)
-    for options in ({}, {"from": str(NOON + 1000)}, {"to": str(NOON + 1000)}, {"from": str(NOON + 2000)}):
-        compared(bench, "a late frame", options, config, a, HEADER)
-
-
-def truncated_frames(bench):
-    """Packets have the frame as recorded: a truncated one with its length on the wire, whatever a filter keeps of others."""
-    a = header() + record(NOON, frame(5, 60, 1)[:20], original=60) + record(NOON + 1, frame(5, 60, 2))
-    bench.watched(TABLE, "1,6 0 0 8,", a, HEADER)
-    for options in ({}, {"verdict": "cut"}, {"filters": "01"}):
-        compared(bench, "frames whole as recorded", options, TABLE, a, HEADER)
-
-
-def unfinished(bench):
-    """Ledgers of runs that were aborted: whole lines alone, or a part of the last one."""
-    a, b = small()
-    ledger = bench.watched(TABLE, EVERY, a, b)
-    lines = ledger.splitlines(keepends=True)
-    part = b"".join(lines[:5])
-    kept = [(f"{count} lines of a ledger", b"".join(lines[:count])) for count in (1, 2, 4, 8, len(lines) - 1)]
-    kept += [(f"the fifth line without its last {lost} bytes", part[:-lost]) for lost in (1, 2, 30, len(lines[4]) - 1)]
-    kept += [("a part of the head", lines[0][:5]), ("a part of the last line", ledger[:-1]), ("an empty ledger", b"")]
-    for name, held in kept:
-        bench.put(ledger=held)
-        for options in ({}, {"around": "1", "link": "6"}):
-            compared(bench, name, options, TABLE, a, b, line=stopped(bench.path("ledger"), held))
-        ran = run(["cut", "--ledger", "-", "--ledger-only"], stdout=subprocess.PIPE, input=held)
-        say(f"cut: {name}, of a pipe", "" if stopped("standard input", held) in ran.stderr.decode() and ran.returncode == SUCCESS else repr(ran.stderr))
-    bench.put(ledger=ledger + lines[1][:9])
-    told = LINES["after total"].format(len(lines) + 1)
-    say("cut: a part of a line after the total", difference(bench.cut(), FAULT, told, packets_of(frame_lines(ledger), recordings_of(a, b))))
-
-
-def refused(bench, name, told, before, a, b, flags=()):
-    """A cut that a line ends: what stands before it is written."""
-    lines = frame_lines(before)
-    expected = "".join(lines).encode() if flags else packets_of(lines, recordings_of(a, b))
-    say(f"cut: {name}: {told}", difference(bench.cut(None, "ab", *flags), FAULT, told, expected))
-
-
-def other_recordings(bench):
-    """Lines that the recordings don't bear out, each with the line's number."""
-    a, b = small()
-    lines = bench.watched(TABLE, EVERY, a, b).splitlines(keepends=True)
-    head, third = lines[0], b"".join(lines[:3])
-
-    def changed(name, at, old, new, line, before):
-        bench.put(ledger=b"".join([*lines[:at], lines[at].replace(old, new, 1), *lines[at + 1 :]]))
-        refused(bench, name, LINES[line].format(at + 1), before, a, b)
-
-    changed("another index", 3, b" A 1 ", b" A 2 ", "absent", third)
-    changed("an index past the recording's end", 3, b" A 1 ", b" A 4 ", "absent", third)
-    changed("another timestamp", 3, str(NOON + 10**9).encode(), str(NOON + 10**9 + 1).encode(), "absent", third)
-    changed("another network", 3, b" A 1 ", b" B 1 ", "absent", third)
-    changed("an earlier timestamp", 3, str(NOON + 10**9).encode(), str(NOON - 1).encode(), "order", third)
-    changed("a line of other words", 3, b"unconfigured", b"unknown", "class", third)
-    changed("a line without its last field", 3, b" 01\n", b"\n", "mask", third)
-    changed("bytes kept for no filter", 3, b" 60 01\n", b" 60 00\n", "mask", third)
-    changed("a filter that keeps no bytes", 3, b" 60 01\n", b" - 01\n", "mask", third)
-    changed("another version", 0, b"ledger 2", b"ledger 1", "head", head)
-    bench.put(ledger=b"".join([*lines[:3], lines[2], *lines[3:]]))
-    refused(bench, "a line twice", LINES["order"].format(4), third, a, b)
-    bench.put(ledger=b"".join(lines), a=b, b=a)
-    refused(bench, "networks swapped", LINES["absent"].format(4), third, b, a)
-    bench.put(a=tap((NOON, frame(5, 60, 1))), b=b)
-    refused(bench, "another recording", LINES["absent"].format(4), third, tap((NOON, frame(5, 60, 1))), b)
-    bench.put(a=a)
-    for network in "AB":
-        bench.put(ledger=b"".join(lines), a=a, b=b)
-        bench.put(**{network.lower(): header()[:23]})
-        say(f"cut: recording {network} is short", difference(bench.cut(), FAULT, LINES["header"].format(network, "1 Short"), b""))
-
-
-def streams(bench):
-    """Files through pipes, `-` for each of them, and both ways to name the output."""
-    a, b = small()
-    ledger = bench.watched(TABLE, EVERY, a, b)
-    packets = packets_of(frame_lines(ledger), recordings_of(a, b))
-    words = bench.arguments()
-    for option, name in (("--ledger", "ledger"), ("--a", "a"), ("--b", "b")):
-        at = words.index(option) + 1
-        through = [*words[:at], "-", *words[at + 1 :]]
-        say(f"cut: {option} -", difference(run(through, input=bench.read(name), stdout=subprocess.PIPE), SUCCESS, "", packets))
-        pipe = bench.path("pipe")
-        os.mkfifo(pipe)
-        pourer = threading.Thread(target=pour, args=(pipe, bench.read(name)), daemon=True)
-        pourer.start()
-        say(f"cut: {option} through a pipe", difference(run([*words[:at], pipe, *words[at + 1 :]], stdin=subprocess.DEVNULL, stdout=subprocess.PIPE), SUCCESS, "", packets))
-        os.remove(pipe)
-    for flag in ("-o", "--output"):
-        bench.put(out=b"older")
-        fault = difference(bench.cut(None, "ab", flag, bench.path("out")), SUCCESS, "", b"")
-        say(f"cut: {flag} FILE", fault or ("" if bench.read("out") == packets else "the file differs"))
-        say(f"cut: {flag} -", difference(bench.cut(None, "ab", flag, "-"), SUCCESS, "", packets))
-    say("cut: lines with recordings", difference(bench.cut({"network": "A"}, "ab", "--ledger-only"), SUCCESS, "", "".join(chosen(ledger, {"network": "A"}, TABLE)).encode()))
-
-
-def ledger_of_a_pipe(bench):
-    """Frames around others need the ledger twice: one that comes through a pipe is refused before anything is written."""
-    a, b = small()
-    ledger = bench.watched(TABLE, EVERY, a, b)
-    words = [*bench.arguments({"around": "1"}), "-o", bench.path("out")]
-    at = words.index("--ledger") + 1
-    told = LINES["selection"].format("around", 0)
-    bench.put(out=b"older")
-    pipe = bench.path("pipe")
-    os.mkfifo(pipe)
-    pourer = threading.Thread(target=pour, args=(pipe, ledger), daemon=True)
-    for name, path in (("-", "-"), ("a pipe", pipe)):
-        if path == pipe:
-            pourer.start()
-        fault = difference(run([*words[:at], path, *words[at + 1 :]], input=ledger, stdout=subprocess.PIPE), FAULT, told, b"")
-        say(f"cut: --around with the ledger of {name}", fault or ("" if bench.read("out") == b"older" else "the output was touched"))
-    os.remove(pipe)
-    words[words.index("--around") + 1] = "0"
-    fault = difference(run([*words[:at], "-", *words[at + 1 :]], input=ledger, stdout=subprocess.PIPE), SUCCESS, "", b"")
-    say("cut: --around 0 reads the ledger once", fault or ("" if bench.read("out") == packets_of(frame_lines(ledger), recordings_of(a, b)) else "the file differs"))
-
-
 def pour(path, given):
     try:
         with open(path, "wb") as out:
@@ -542,98 +320,301 @@ def pour(path, given):
         pass
 
 
-def usage(bench):
-    """Refused options: status 2 and the option in the text; of a selection status 1 and the item. Nothing is written."""
-    a, b = small()
-    bench.watched(TABLE, EVERY, a, b)
-    whole = bench.arguments()
-    cases = [("no ledger", ["cut", "--a", bench.path("a")], "--ledger"), ("no recording", whole[:3], "--a, --b")]
-    cases += [(f"--{name} twice", [*whole, f"--{name}", value, f"--{name}", value], f"--{name}") for name, value in
-              (("link", "5"), ("network", "A"), ("verdict", "out"), ("from", "1"), ("to", "1"), ("span", "1s"), ("filters", "01"), ("around", "1"))]
-    cases += [(f"--around {text!r}", [*whole, f"--around={text}"], "--around") for text in ("65536", "-1", "", "1.5", "one")]
-    cases += [(f"--network {text!r}", [*whole, f"--network={text}"], "--network") for text in ("C", "a", "AB", "")]
-    wrong = [("link", text) for text in ("5-4", "65536", "5,", ",5", "5--6", "", "brake", "5-")]
-    wrong += [("verdict", text) for text in ("exces", "out,", "", "A", "out copy", "-")]
-    wrong += [("filters", text) for text in ("", "0", "100", "0g", "+1", "00")]
-    wrong += [(end, text) for end in ("from", "to") for text in ("24:00:00", "12:00", "24:00", "12:60", "12:0", "1:000", "12:0x", "+s", "+1ss", "+1m", "+1ms", "12:60:00", "12:00:00.", "12:00:00.1234567890", "1969-12-31T23:59:59Z",
-              "2027-02-29T00:00:00Z", "2106-02-07T06:28:16Z", str(2**32 * 10**9), "-1", "noon", "+", "++1", "+-1", "+1.", "+.5", "+1.0123456789", "+1s", "1+1", "+ 1", "+1.2.3", "+1.+5", "+4294967296", "2027-01-15T08:00:12", "2027-01-15T08:00:12+01:00", "")]
-    wrong += [("span", text) for text in ("", "2", "s", "ms", "2m", "2h", "2ns", "-1s", "+1s", "1.s", ".5s", "1.0000000001s", "1.0000001ms", "1.0001us", "2 s", "2S", "2ss",
-              "2mss", "1e3s", "1:00s", "1.2.3s", "4294967296s", "4294967296us")]
-    cases += [("--to and --span", [*whole, "--to", "1", "--span", "1s"], "--to and --span both end the span of time: give one of them")]
-    for name, arguments, mentioned in cases:
-        ran = run(arguments, stdin=subprocess.DEVNULL, stdout=subprocess.PIPE)
-        say(f"cut: {name}", difference(ran, USAGE, lambda told: mentioned in told, b""))
-    texts = [(name, [*whole, f"--{name}={text}"], 1 if text in ("5,", "out,") else 0) for name, text in wrong]
-    texts += [("link", [*whole, "--config", bench.path("config"), "--link", "5,flaps"], 1)]
-    for name, arguments, item in texts:
-        ran = run(arguments, stdin=subprocess.DEVNULL, stdout=subprocess.PIPE)
-        say(f"cut: {arguments[-1]}", difference(ran, FAULT, LINES["selection"].format(name, item), b""))
-    found = at_terminal(whole)
-    say("cut: packets never go to a terminal", "" if found == (USAGE, "", TO_A_TERMINAL + "\n") else f"{found!r}"[:300])
-    found = at_terminal([*whole, "--ledger-only"])
-    lines = "".join(frame_lines(bench.read("ledger")))
-    say("cut: lines go to a terminal", "" if found == (SUCCESS, lines, "") else f"{found!r}"[:300])
+class Cut(Case):
+    def setUp(self):
+        self.bench = Bench(self.folder)
 
+    def compared(self, name, options, config, a, b, networks="ab", line=""):
+        """A cut that has to succeed: its packets and its lines, without those of a network that has no recording, and all lines without recordings.
+        A name that no link has is refused, and a span that ends before it begins."""
+        ledger = self.bench.read("ledger")
+        wrong = refused_option(options, config)
+        if wrong:
+            told = LINES["selection"].format(*wrong)
+            fault = difference(self.bench.cut(options, networks), FAULT, told, b"") or difference(self.bench.cut(options, "", "--ledger-only"), FAULT, told, b"")
+            return self.case(f"cut: {name}: --{wrong[0]} is refused", fault)
+        lines = chosen(ledger, options, config)
+        read = "".join(one for one in lines if one.split()[1].lower() in networks).encode()
+        told = told_of(notes_of(ledger, options, lines, networks), line)
+        fault = difference(self.bench.cut(options, networks), SUCCESS, told, packets_of(lines, recordings_of(a, b, networks)))
+        fault = fault or difference(self.bench.cut(options, networks, "--ledger-only"), SUCCESS, told, read)
+        alone = told_of(notes_of(ledger, options, lines, ""), line)
+        fault = fault or difference(self.bench.cut(options, "", "--ledger-only"), SUCCESS, alone, "".join(lines).encode())
+        self.case(f"cut: {name}: {' '.join(f'--{key} {value}' for key, value in options.items())}", fault)
 
-def devices(bench):
-    """Files that can't be opened, read or written."""
-    a, b = small()
-    bench.watched(TABLE, EVERY, a, b)
-    whole = bench.arguments()
-    for option, of in (("--ledger", "Ledger"), ("--a", "A"), ("--b", "B")):
-        at = whole.index(option) + 1
-        for path, line in ((bench.path("missing"), LINES["open"].format(option)), (bench.directory, LINES["read"].format(of)), ("/proc/self/mem", LINES["read"].format(of))):
-            # The capture is begun before the ledger is read.
-            begun = header() if of == "Ledger" and os.path.exists(path) else b""
-            ran = run([*whole[:at], path, *whole[at + 1 :]], stdin=subprocess.DEVNULL, stdout=subprocess.PIPE)
-            say(f"cut: {option} {os.path.basename(path)}", difference(ran, FAULT, line, begun))
-    for flags in ((), ("--ledger-only",)):
-        with open("/dev/full", "wb") as full:
-            say(f"cut: a full disk {' '.join(flags)}", difference(bench.cut(None, "ab", *flags, stdout=full), FAULT, LINES["write"]))
-        say(f"cut: -o /dev/full {' '.join(flags)}", difference(bench.cut(None, "ab", *flags, "-o", "/dev/full"), FAULT, LINES["write"], b""))
+    def test_generated(self):
+        """Selections over small pairs: late, equal and missing timestamps, each class and verdict."""
+        used = set()
+        for seed in range(60):
+            chance = random.Random(seed)
+            config, code, a, b = pairs.pair(chance)
+            ledger = self.bench.watched(config, code, a, b)
+            for _ in range(3):
+                options = some_options(chance, ledger, config)
+                used.update(options)
+                self.compared(f"pair {seed}", options, config, a, b)
+            network = chance.choice("ab")
+            self.compared(f"pair {seed}, network {network.upper()}", {"network": network.upper()}, config, a, b, network)
+            alone = {"a": (a, HEADER), "b": (HEADER, b)}[network]
+            self.bench.watched(config, code, *alone)
+            self.compared(f"pair {seed}, network {network.upper()} alone", some_options(chance, ledger, config), config, *alone, network)
+        self.case("cut: each option is tried", "" if used == set(OPTIONS) else f"without {set(OPTIONS) - used}")
 
+    def test_bounds(self):
+        """Each option at its bounds, on frames of which each has its own time."""
+        a, b = small()
+        self.bench.watched(TABLE, EVERY, a, b)
+        two = NOON + 2 * 10**9
+        cases = [{}]
+        cases += [{end: text} for end in ("from", "to") for time in (two - 1, two, two + 1, two + 2) for text in (str(time), written(time), written(time)[11:29])]
+        cases += [{"from": "12:00:02", "to": "12:00:02"}, {"from": "00:00:00", "to": "23:59:59.999999999"}, {"from": "12:00:02.0", "to": "12:00:02.000000001"}]
+        cases += [{"from": str(two + 1), "to": str(two)}, {"from": "0", "to": str(2**32 * 10**9 - 1)}]
+        cases += [{"from": first, "to": last} for first in (written(two + 1), "12:00:02.000000001") for last in (written(two), "12:00:02", str(two))]
+        cases += [{end: text} for end in ("from", "to") for text in ("+0", "+2", "+2.0", "+1.999999999", "+2.000000001", "+2.000000002", "+4", "+4.000000001", "+4294967295.999999999")]
+        cases += [{"from": "+1", "to": text} for text in ("+1", "+2", "+0.999999999", "12:00:02", "12:00:00", str(two), written(two))]
+        cases += [{"to": text} for text in ("12:00:00", "11:59:59.999999999", "12:00:00.000000001", "00:00:00", "23:59:59.999999999")]
+        cases += [{"from": text} for text in ("11:59:59.999999999", "00:00:00", "23:59:59.999999999")]
+        cases += [{"from": "12:00:01", "to": "12:00:00.999999999"}, {"from": "11:00:00", "to": "11:59:59"}, {"from": "11:00:00", "to": "12:00:00"}, {"from": written(two), "to": "12:00:01"}]
+        spans = ("0s", "0.000000001s", "2s", "2.000000001s", "1.999999999s", "2000ms", "1999.999999ms", "2000000us", "2000000.001us", "0us", "4294967295.999999999s", "86399s", "86400s", "43200s")
+        cases += [{**start, "span": text} for start in ({}, {"from": "+0"}, {"from": "+2"}, {"from": str(two)}, {"from": "12:00:02"}, {"from": "11:59:58"}, {"from": "00:00:00"}, {"from": str(2**32 * 10**9 - 1)})
+                  for text in spans]
+        cases += [{"verdict": text} for text in ("faults", "faults,copy", "discarded,faults")]
+        cases += [{"link": text} for text in ("5", "5-5", "4-5", "5-6", "6", "4", "7-65535", "0-4,6-65535", "brake", "br*", "*", "b*e", "br*ake", "*rak", "6,brake")]
+        cases += [{"network": "A"}, {"network": "B"}, {"verdict": "first"}, {"verdict": "next,unconfigured"}, {"verdict": "discarded"}, {"verdict": "delivered"}, {"verdict": "regular"}]
+        cases += [{"filters": "01"}, {"filters": "fe"}, {"filters": "03"}]
+        cases += [{"link": "5", "network": "B", "verdict": "copy", "from": str(two), "to": str(two + 1), "filters": "01"}]
+        cases += [{"around": text, **more} for text in ("0", "1", "2", "3", "4", "5", "6", "65534", "65535") for more in ({}, {"verdict": "first"}, {"from": str(two), "to": str(two)}, {"link": "6"})]
+        for options in cases:
+            self.compared("bounds", options, TABLE, a, b)
+        for network in "ab":
+            for options in ({}, {"network": "A"}, {"network": "B"}, {"verdict": "copy"}, {"link": "6"}, {"from": "+4"}, {"from": "+2", "around": "1"}, {"verdict": "runt"}):
+                self.compared(f"recording {network.upper()} alone", options, TABLE, a, b, network)
 
-def older_outputs(bench):
-    """An output holds what a run without a fault wrote, be it nothing. After a fault before that it stands."""
-    a, b = small()
-    bench.watched(TABLE, EVERY, a, b)
-    out = bench.path("older")
-    for flags, written in (((), header()), (("--ledger-only",), b"")):
-        for name, options, status, line, left in (
-            ("no line is selected", {"verdict": "oversize"}, SUCCESS, nothing(bench.read("ledger"), {"verdict": "oversize"}), written),
-            ("a selection that is refused", {"verdict": "nonsense"}, FAULT, LINES["selection"].format("verdict", 0), b"older"),
-        ):
-            bench.put(older=b"older")
-            fault = difference(bench.cut(options, "ab", *flags, "-o", out), status, line, b"")
-            found = bench.read("older")
-            say(f"cut: an older output, {name} {' '.join(flags)}", fault or ("" if found == left else f"it holds {found!r}"))
+    def test_midnight(self):
+        """A run across midnight, by times of day alone, and one that begins just after it."""
+        for first in (NOON + DAY // 2 - 10 * 10**9, NOON + DAY // 2 - 2 * 10**9 + 1, NOON + DAY // 2, NOON + DAY // 2 + 10**9, 0, 10**9):
+            packets = [(first + second * 10**9, frame(5, 60, second % 255 + 1)) for second in range(30)]
+            a = tap(*packets)
+            self.bench.watched(TABLE, EVERY, a, HEADER)
+            ends = ("23:59:58", "23:59:58.000000001", "00:00:00", "00:00:02", "00:00:06", "12:00:00")
+            cases = [{"from": start, "to": end} for start in ends for end in ends] + [{end: text} for end in ("from", "to") for text in ends]
+            cases += [{"from": start, "span": span} for start in ends for span in ("0s", "2s", "8s", "86400s")]
+            cases += [{"from": start, "to": end} for start in ends for end in ("+4", str(first + 8 * 10**9))]
+            for options in cases:
+                self.compared(f"from {written(first)}", options, TABLE, a, HEADER, "a")
 
+    def test_every_fault(self):
+        """`faults` takes each discard but copies, on a ledger that has each word of fields 6 to 9."""
+        fields = {"cut": "cut - - -", "runt": "runt - - -", "oversize": "oversize - - -", "foreign": "foreign - - -", "unconfigured": "unconfigured - - -",
+                  "toolong": "toolong - - -", "excess": "regular excess - -", "out": "regular within out -", "copy": "regular within next copy",
+                  "deliver": "regular within skip deliver", "both": "regular within off both"}
+        linked = {word for word in fields if word not in ("cut", "runt", "oversize", "foreign")}
+        lines = [f"{NOON + at} A {at} {'5' if word in linked else '-'} {'1' if word in linked else '-'} {text} - 00\n"
+                 for at, (word, text) in enumerate(fields.items())]
+        self.bench.put(ledger="afdx-ledger 2\n" + "".join(lines))
+        taken = [line for line, word in zip(lines, fields) if word not in ("copy", "deliver", "both")]
+        ran = self.bench.cut({"verdict": "faults"}, "", "--ledger-only")
+        told = stopped(self.bench.path("ledger"), self.bench.read("ledger"))
+        self.case("cut: --verdict faults, each word", difference(ran, SUCCESS, told, "".join(taken).encode()))
 
-def a_million(bench, frames=1_000_000):
-    """A ledger of a million lines and its recordings, in closed form: every 1000th frame on A, and all lines of B."""
-    stamps = range(NOON, NOON + frames // 2 * 10**6, 10**6)
-    packets = [record(stamp, frame(5, 60, i % 255 + 1)) for i, stamp in enumerate(stamps)]
-    recording = header() + b"".join(packets)
-    lines = []
-    for i, stamp in enumerate(stamps):
-        judged = f"{i} 5 {i % 255 + 1} regular within {'next' if i else 'first'}"
-        verdict = "deliver 60 01" if i % 1000 == 0 else "deliver - 00"
-        lines += [f"{stamp} A {judged} {verdict}\n", f"{stamp} B {judged} copy - 00\n"]
-    bench.put(a=recording, b=recording, ledger=("afdx-ledger 2\n" + "".join(lines)).encode() + b"total frames %d accepted 0\n" % frames)
-    ran = bench.cut({"filters": "01"})
-    say(f"cut: {frames} lines, one of a thousand", difference(ran, SUCCESS, "", header() + b"".join(packets[::1000])))
-    ran = bench.cut({"verdict": "copy"})
-    say(f"cut: {frames} lines, all of a network", difference(ran, SUCCESS, "", recording))
-    near = {at + step for at in range(0, frames, 2000) for step in range(-3, 4)}
-    ran = bench.cut({"filters": "01", "around": "3"}, "", "--ledger-only")
-    expected = "".join(line for at, line in enumerate(lines) if at in near).encode()
-    say(f"cut: {frames} lines, three around one of a thousand", difference(ran, SUCCESS, "", expected))
-    ran = bench.cut({"from": str(stamps[-1])}, "", "--ledger-only")
-    say(f"cut: {frames} lines, the last ones", difference(ran, SUCCESS, "", "".join(lines[-2:]).encode()))
+    def test_late(self):
+        """A late frame stands earlier in the ledger than in its recording, which is read whole for it."""
+        a = tap((NOON, frame(5, 60, 1)), (NOON + 2000, frame(5, 60, 3)), (NOON + 1000, frame(5, 60, 2)), (NOON + 2000, frame(5, 60, 4)))
+        config = "late_us = 1\n" + TABLE
+        self.bench.watched(config, EVERY, a, HEADER)
+        for options in ({}, {"from": str(NOON + 1000)}, {"to": str(NOON + 1000)}, {"from": str(NOON + 2000)}):
+            self.compared("a late frame", options, config, a, HEADER)
 
+    def test_truncated_frames(self):
+        """Packets have the frame as recorded: a truncated one with its length on the wire, whatever a filter keeps of others."""
+        a = header() + record(NOON, frame(5, 60, 1)[:20], original=60) + record(NOON + 1, frame(5, 60, 2))
+        self.bench.watched(TABLE, "1,6 0 0 8,", a, HEADER)
+        for options in ({}, {"verdict": "cut"}, {"filters": "01"}):
+            self.compared("frames whole as recorded", options, TABLE, a, HEADER)
 
-def cases():
-    with tempfile.TemporaryDirectory() as directory:
-        bench = Bench(directory)
-        for part in (bounds, midnight, every_fault, late, truncated_frames, unfinished, other_recordings, streams, ledger_of_a_pipe, usage, devices, older_outputs, generated, a_million):
-            part(bench)
+    def test_unfinished(self):
+        """Ledgers of runs that were aborted: whole lines alone, or a part of the last one."""
+        a, b = small()
+        ledger = self.bench.watched(TABLE, EVERY, a, b)
+        lines = ledger.splitlines(keepends=True)
+        part = b"".join(lines[:5])
+        kept = [(f"{count} lines of a ledger", b"".join(lines[:count])) for count in (1, 2, 4, 8, len(lines) - 1)]
+        kept += [(f"the fifth line without its last {lost} bytes", part[:-lost]) for lost in (1, 2, 30, len(lines[4]) - 1)]
+        kept += [("a part of the head", lines[0][:5]), ("a part of the last line", ledger[:-1]), ("an empty ledger", b"")]
+        for name, held in kept:
+            self.bench.put(ledger=held)
+            for options in ({}, {"around": "1", "link": "6"}):
+                self.compared(name, options, TABLE, a, b, line=stopped(self.bench.path("ledger"), held))
+            ran = run(["cut", "--ledger", "-", "--ledger-only"], stdout=subprocess.PIPE, input=held)
+            self.case(f"cut: {name}, of a pipe", "" if stopped("standard input", held) in ran.stderr.decode() and ran.returncode == SUCCESS else repr(ran.stderr))
+        self.bench.put(ledger=ledger + lines[1][:9])
+        told = LINES["after total"].format(len(lines) + 1)
+        self.case("cut: a part of a line after the total", difference(self.bench.cut(), FAULT, told, packets_of(frame_lines(ledger), recordings_of(a, b))))
+
+    def refused(self, name, told, before, a, b, flags=()):
+        """A cut that a line ends: what stands before it is written."""
+        lines = frame_lines(before)
+        expected = "".join(lines).encode() if flags else packets_of(lines, recordings_of(a, b))
+        self.case(f"cut: {name}: {told}", difference(self.bench.cut(None, "ab", *flags), FAULT, told, expected))
+
+    def test_other_recordings(self):
+        """Lines that the recordings don't bear out, each with the line's number."""
+        a, b = small()
+        lines = self.bench.watched(TABLE, EVERY, a, b).splitlines(keepends=True)
+        head, third = lines[0], b"".join(lines[:3])
+
+        def changed(name, at, old, new, line, before):
+            self.bench.put(ledger=b"".join([*lines[:at], lines[at].replace(old, new, 1), *lines[at + 1 :]]))
+            self.refused(name, LINES[line].format(at + 1), before, a, b)
+
+        changed("another index", 3, b" A 1 ", b" A 2 ", "absent", third)
+        changed("an index past the recording's end", 3, b" A 1 ", b" A 4 ", "absent", third)
+        changed("another timestamp", 3, str(NOON + 10**9).encode(), str(NOON + 10**9 + 1).encode(), "absent", third)
+        changed("another network", 3, b" A 1 ", b" B 1 ", "absent", third)
+        changed("an earlier timestamp", 3, str(NOON + 10**9).encode(), str(NOON - 1).encode(), "order", third)
+        changed("a line of other words", 3, b"unconfigured", b"unknown", "class", third)
+        changed("a line without its last field", 3, b" 01\n", b"\n", "mask", third)
+        changed("bytes kept for no filter", 3, b" 60 01\n", b" 60 00\n", "mask", third)
+        changed("a filter that keeps no bytes", 3, b" 60 01\n", b" - 01\n", "mask", third)
+        changed("another version", 0, b"ledger 2", b"ledger 1", "head", head)
+        self.bench.put(ledger=b"".join([*lines[:3], lines[2], *lines[3:]]))
+        self.refused("a line twice", LINES["order"].format(4), third, a, b)
+        self.bench.put(ledger=b"".join(lines), a=b, b=a)
+        self.refused("networks swapped", LINES["absent"].format(4), third, b, a)
+        self.bench.put(a=tap((NOON, frame(5, 60, 1))), b=b)
+        self.refused("another recording", LINES["absent"].format(4), third, tap((NOON, frame(5, 60, 1))), b)
+        self.bench.put(a=a)
+        for network in "AB":
+            self.bench.put(ledger=b"".join(lines), a=a, b=b)
+            self.bench.put(**{network.lower(): header()[:23]})
+            self.case(f"cut: recording {network} is short", difference(self.bench.cut(), FAULT, LINES["header"].format(network, "1 Short"), b""))
+
+    def test_streams(self):
+        """Files through pipes, `-` for each of them, and both ways to name the output."""
+        a, b = small()
+        ledger = self.bench.watched(TABLE, EVERY, a, b)
+        packets = packets_of(frame_lines(ledger), recordings_of(a, b))
+        words = self.bench.arguments()
+        for option, name in (("--ledger", "ledger"), ("--a", "a"), ("--b", "b")):
+            at = words.index(option) + 1
+            through = [*words[:at], "-", *words[at + 1 :]]
+            self.case(f"cut: {option} -", difference(run(through, input=self.bench.read(name), stdout=subprocess.PIPE), SUCCESS, "", packets))
+            pipe = self.bench.path("pipe")
+            os.mkfifo(pipe)
+            pourer = threading.Thread(target=pour, args=(pipe, self.bench.read(name)), daemon=True)
+            pourer.start()
+            self.case(f"cut: {option} through a pipe", difference(run([*words[:at], pipe, *words[at + 1 :]], stdin=subprocess.DEVNULL, stdout=subprocess.PIPE), SUCCESS, "", packets))
+            os.remove(pipe)
+        for flag in ("-o", "--output"):
+            self.bench.put(out=b"older")
+            fault = difference(self.bench.cut(None, "ab", flag, self.bench.path("out")), SUCCESS, "", b"")
+            self.case(f"cut: {flag} FILE", fault or ("" if self.bench.read("out") == packets else "the file differs"))
+            self.case(f"cut: {flag} -", difference(self.bench.cut(None, "ab", flag, "-"), SUCCESS, "", packets))
+        self.case("cut: lines with recordings", difference(self.bench.cut({"network": "A"}, "ab", "--ledger-only"), SUCCESS, "", "".join(chosen(ledger, {"network": "A"}, TABLE)).encode()))
+
+    def test_ledger_of_a_pipe(self):
+        """Frames around others need the ledger twice: one that comes through a pipe is refused before anything is written."""
+        a, b = small()
+        ledger = self.bench.watched(TABLE, EVERY, a, b)
+        words = [*self.bench.arguments({"around": "1"}), "-o", self.bench.path("out")]
+        at = words.index("--ledger") + 1
+        told = LINES["selection"].format("around", 0)
+        self.bench.put(out=b"older")
+        pipe = self.bench.path("pipe")
+        os.mkfifo(pipe)
+        pourer = threading.Thread(target=pour, args=(pipe, ledger), daemon=True)
+        for name, path in (("-", "-"), ("a pipe", pipe)):
+            if path == pipe:
+                pourer.start()
+            fault = difference(run([*words[:at], path, *words[at + 1 :]], input=ledger, stdout=subprocess.PIPE), FAULT, told, b"")
+            self.case(f"cut: --around with the ledger of {name}", fault or ("" if self.bench.read("out") == b"older" else "the output was touched"))
+        os.remove(pipe)
+        words[words.index("--around") + 1] = "0"
+        fault = difference(run([*words[:at], "-", *words[at + 1 :]], input=ledger, stdout=subprocess.PIPE), SUCCESS, "", b"")
+        self.case("cut: --around 0 reads the ledger once", fault or ("" if self.bench.read("out") == packets_of(frame_lines(ledger), recordings_of(a, b)) else "the file differs"))
+
+    def test_usage(self):
+        """Refused options: status 2 and the option in the text; of a selection status 1 and the item. Nothing is written."""
+        a, b = small()
+        self.bench.watched(TABLE, EVERY, a, b)
+        whole = self.bench.arguments()
+        cases = [("no ledger", ["cut", "--a", self.bench.path("a")], "--ledger"), ("no recording", whole[:3], "--a, --b")]
+        cases += [(f"--{name} twice", [*whole, f"--{name}", value, f"--{name}", value], f"--{name}") for name, value in
+                  (("link", "5"), ("network", "A"), ("verdict", "out"), ("from", "1"), ("to", "1"), ("span", "1s"), ("filters", "01"), ("around", "1"))]
+        cases += [(f"--around {text!r}", [*whole, f"--around={text}"], "--around") for text in ("65536", "-1", "", "1.5", "one")]
+        cases += [(f"--network {text!r}", [*whole, f"--network={text}"], "--network") for text in ("C", "a", "AB", "")]
+        wrong = [("link", text) for text in ("5-4", "65536", "5,", ",5", "5--6", "", "brake", "5-")]
+        wrong += [("verdict", text) for text in ("exces", "out,", "", "A", "out copy", "-")]
+        wrong += [("filters", text) for text in ("", "0", "100", "0g", "+1", "00")]
+        wrong += [(end, text) for end in ("from", "to") for text in ("24:00:00", "12:00", "24:00", "12:60", "12:0", "1:000", "12:0x", "+s", "+1ss", "+1m", "+1ms", "12:60:00", "12:00:00.", "12:00:00.1234567890", "1969-12-31T23:59:59Z",
+                  "2027-02-29T00:00:00Z", "2106-02-07T06:28:16Z", str(2**32 * 10**9), "-1", "noon", "+", "++1", "+-1", "+1.", "+.5", "+1.0123456789", "+1s", "1+1", "+ 1", "+1.2.3", "+1.+5", "+4294967296", "2027-01-15T08:00:12", "2027-01-15T08:00:12+01:00", "")]
+        wrong += [("span", text) for text in ("", "2", "s", "ms", "2m", "2h", "2ns", "-1s", "+1s", "1.s", ".5s", "1.0000000001s", "1.0000001ms", "1.0001us", "2 s", "2S", "2ss",
+                  "2mss", "1e3s", "1:00s", "1.2.3s", "4294967296s", "4294967296us")]
+        cases += [("--to and --span", [*whole, "--to", "1", "--span", "1s"], "--to and --span both end the span of time: give one of them")]
+        for name, arguments, mentioned in cases:
+            ran = run(arguments, stdin=subprocess.DEVNULL, stdout=subprocess.PIPE)
+            self.case(f"cut: {name}", difference(ran, USAGE, lambda told: mentioned in told, b""))
+        texts = [(name, [*whole, f"--{name}={text}"], 1 if text in ("5,", "out,") else 0) for name, text in wrong]
+        texts += [("link", [*whole, "--config", self.bench.path("config"), "--link", "5,flaps"], 1)]
+        for name, arguments, item in texts:
+            ran = run(arguments, stdin=subprocess.DEVNULL, stdout=subprocess.PIPE)
+            self.case(f"cut: {arguments[-1]}", difference(ran, FAULT, LINES["selection"].format(name, item), b""))
+        found = at_terminal(whole)
+        self.case("cut: packets never go to a terminal", "" if found == (USAGE, "", TO_A_TERMINAL + "\n") else f"{found!r}"[:300])
+        found = at_terminal([*whole, "--ledger-only"])
+        lines = "".join(frame_lines(self.bench.read("ledger")))
+        self.case("cut: lines go to a terminal", "" if found == (SUCCESS, lines, "") else f"{found!r}"[:300])
+
+    def test_devices(self):
+        """Files that can't be opened, read or written."""
+        a, b = small()
+        self.bench.watched(TABLE, EVERY, a, b)
+        whole = self.bench.arguments()
+        for option, of in (("--ledger", "Ledger"), ("--a", "A"), ("--b", "B")):
+            at = whole.index(option) + 1
+            for path, line in ((self.bench.path("missing"), LINES["open"].format(option)), (self.bench.directory, LINES["read"].format(of)), ("/proc/self/mem", LINES["read"].format(of))):
+                # The capture is begun before the ledger is read.
+                begun = header() if of == "Ledger" and os.path.exists(path) else b""
+                ran = run([*whole[:at], path, *whole[at + 1 :]], stdin=subprocess.DEVNULL, stdout=subprocess.PIPE)
+                self.case(f"cut: {option} {os.path.basename(path)}", difference(ran, FAULT, line, begun))
+        for flags in ((), ("--ledger-only",)):
+            with open("/dev/full", "wb") as full:
+                self.case(f"cut: a full disk {' '.join(flags)}", difference(self.bench.cut(None, "ab", *flags, stdout=full), FAULT, LINES["write"]))
+            self.case(f"cut: -o /dev/full {' '.join(flags)}", difference(self.bench.cut(None, "ab", *flags, "-o", "/dev/full"), FAULT, LINES["write"], b""))
+
+    def test_older_outputs(self):
+        """An output holds what a run without a fault wrote, be it nothing. After a fault before that it stands."""
+        a, b = small()
+        self.bench.watched(TABLE, EVERY, a, b)
+        out = self.bench.path("older")
+        for flags, written in (((), header()), (("--ledger-only",), b"")):
+            for name, options, status, line, left in (
+                ("no line is selected", {"verdict": "oversize"}, SUCCESS, nothing(self.bench.read("ledger"), {"verdict": "oversize"}), written),
+                ("a selection that is refused", {"verdict": "nonsense"}, FAULT, LINES["selection"].format("verdict", 0), b"older"),
+            ):
+                self.bench.put(older=b"older")
+                fault = difference(self.bench.cut(options, "ab", *flags, "-o", out), status, line, b"")
+                found = self.bench.read("older")
+                self.case(f"cut: an older output, {name} {' '.join(flags)}", fault or ("" if found == left else f"it holds {found!r}"))
+
+    def test_a_million(self, frames=1_000_000):
+        """A ledger of a million lines and its recordings, in closed form: every 1000th frame on A, and all lines of B."""
+        stamps = range(NOON, NOON + frames // 2 * 10**6, 10**6)
+        packets = [record(stamp, frame(5, 60, i % 255 + 1)) for i, stamp in enumerate(stamps)]
+        recording = header() + b"".join(packets)
+        lines = []
+        for i, stamp in enumerate(stamps):
+            judged = f"{i} 5 {i % 255 + 1} regular within {'next' if i else 'first'}"
+            verdict = "deliver 60 01" if i % 1000 == 0 else "deliver - 00"
+            lines += [f"{stamp} A {judged} {verdict}\n", f"{stamp} B {judged} copy - 00\n"]
+        self.bench.put(a=recording, b=recording, ledger=("afdx-ledger 2\n" + "".join(lines)).encode() + b"total frames %d accepted 0\n" % frames)
+        ran = self.bench.cut({"filters": "01"})
+        self.case(f"cut: {frames} lines, one of a thousand", difference(ran, SUCCESS, "", header() + b"".join(packets[::1000])))
+        ran = self.bench.cut({"verdict": "copy"})
+        self.case(f"cut: {frames} lines, all of a network", difference(ran, SUCCESS, "", recording))
+        near = {at + step for at in range(0, frames, 2000) for step in range(-3, 4)}
+        ran = self.bench.cut({"filters": "01", "around": "3"}, "", "--ledger-only")
+        expected = "".join(line for at, line in enumerate(lines) if at in near).encode()
+        self.case(f"cut: {frames} lines, three around one of a thousand", difference(ran, SUCCESS, "", expected))
+        ran = self.bench.cut({"from": str(stamps[-1])}, "", "--ledger-only")
+        self.case(f"cut: {frames} lines, the last ones", difference(ran, SUCCESS, "", "".join(lines[-2:]).encode()))

@@ -5,8 +5,8 @@ lines are in their order, and a copy has its delivery before it. The lines of co
 """
 import tomllib
 
-from flights import MS
-from plants import OTHER
+from tests.flights import MS
+from tests.plants import OTHER
 
 TIME, NETWORK, INDEX, LINK, NUMBER, CLASS, POLICING, INTEGRITY, REDUNDANCY = range(9)
 NO_LINK = ("cut", "runt", "oversize", "foreign")

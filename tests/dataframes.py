@@ -2,11 +2,10 @@
 import json
 import os
 import subprocess
-import tempfile
 from collections import Counter, defaultdict
 
-from guide import DEBIAN_PYTHON, has_pandas
-from harness import TOP, run, say, skip
+from tests.guide import DEBIAN_PYTHON, has_pandas
+from tests.harness import TOP, Case, run
 
 FLIGHT = os.path.join(TOP, "examples")
 # What the module finds, as JSON: each in words that the slow reader has too.
@@ -80,26 +79,30 @@ def found_in(path):
     return json.loads(ran.stdout) if ran.returncode == 0 else ran.stderr[-500:]
 
 
-def cases():
-    if not has_pandas():
-        skip("examples/ledger.py", "no pandas and matplotlib here")
-        return
-    with tempfile.TemporaryDirectory() as folder:
-        path = os.path.join(folder, "flight.ledger")
+class Dataframes(Case):
+    def setUp(self):
+        if not has_pandas():
+            self.skipTest("no pandas and matplotlib here")
+        self.ledger = os.path.join(self.folder, "flight.ledger")
         taps = [word for tap in "ab" for word in (f"--{tap}", os.path.join(FLIGHT, f"flight_{tap}.pcap"))]
         tables = [os.path.join(FLIGHT, f"flight.{kind}") for kind in ("toml", "filter")]
-        run(["watch", "--config", tables[0], "--filter", tables[1], *taps, "--ledger", path])
-        found, expected = found_in(path), slowly(path)
+        run(["watch", "--config", tables[0], "--filter", tables[1], *taps, "--ledger", self.ledger])
+
+    def test_frames(self):
+        found, expected = found_in(self.ledger), slowly(self.ledger)
         for name, value in expected.items():
             same = isinstance(found, dict) and (abs(found[name] - value) < 1e-6 if name == "kbit" else found[name] == value)
-            say(f"examples/ledger.py: {name}", "" if same else f"{str(found[name] if isinstance(found, dict) else found)[:300]}")
+            self.case(f"examples/ledger.py: {name}", "" if same else f"{str(found[name] if isinstance(found, dict) else found)[:300]}")
         right = isinstance(found, dict) and found["table"]["301"] == 128 and found["same"] == 0
-        say("examples/ledger.py: a table, and a flight beside itself", "" if right else f"{str(found)[:300]}")
+        self.case("examples/ledger.py: a table, and a flight beside itself", "" if right else f"{str(found)[:300]}")
         for name in ("intervals", "skew"):
-            picture = f"{path}.{name}.png"
+            picture = f"{self.ledger}.{name}.png"
             drawn = os.path.exists(picture) and open(picture, "rb").read(8) == b"\x89PNG\r\n\x1a\n"
-            say(f"examples/ledger.py: the picture of {name}", "" if drawn else "it isn't there")
-        with open(path, "rb+") as text:
-            text.truncate(os.path.getsize(path) - 1)
-        ran = subprocess.run([DEBIAN_PYTHON, "-c", "import ledger, sys; ledger.read(sys.argv[1])", path], capture_output=True, env={**os.environ, "PYTHONPATH": FLIGHT})
-        say("examples/ledger.py: an incomplete ledger", "" if b"ledger.Incomplete" in ran.stderr else f"{ran.stderr[-200:]!r}")
+            self.case(f"examples/ledger.py: the picture of {name}", "" if drawn else "it isn't there")
+
+    def test_incomplete(self):
+        with open(self.ledger, "rb+") as text:
+            text.truncate(os.path.getsize(self.ledger) - 1)
+        command = [DEBIAN_PYTHON, "-c", "import ledger, sys; ledger.read(sys.argv[1])", self.ledger]
+        ran = subprocess.run(command, capture_output=True, env={**os.environ, "PYTHONPATH": FLIGHT})
+        self.case("examples/ledger.py: an incomplete ledger", "" if b"ledger.Incomplete" in ran.stderr else f"{ran.stderr[-200:]!r}")

@@ -1,18 +1,36 @@
-"""The documents as texts: one width, links that lead somewhere, and each fault, ending, word, key and member of a JSON of the
-program in its page. Each option stands in afdxmon(1), which tests/manual.py compares with the help."""
+"""The documents as texts: one width, links that lead somewhere, plain sentences, and each fault, ending, word, key and member of
+a JSON of the program in its page. Each option stands in afdxmon(1), which tests/manual.py compares with the help."""
 import json
 import os
 import re
 import subprocess
 import tempfile
 
-from guide import commands_of
-from harness import PROGRAM, TOP, say
+from tests.guide import commands_of
+from tests.harness import PROGRAM, TOP, Case
 
 WIDTH = 100
 LINK = re.compile(r"\]\(([^)\s]+)\)")
 # Faults of watch that the program refuses before a run, or that a run without threads can't meet.
 UNTOLD = {"5 Spawn", "8 Filters"}
+# The words of all pages of docs/, where bars of tables are none; sentences of more than LONG words, by page; and comments of
+# declarations that begin as none should. These numbers may only fall.
+WORDS = 26_000
+LONG = 30
+LONG_SENTENCES = {}
+ODD_COMMENTS = 143
+# Forms over which a reader stumbles, and what to write.
+RIDDLES = (
+    (r"^(What|Whether|Who|Which|How|Of|That|Those) (?!is that\b)[^?]*$", "begin with who does something, or with the thing"),
+    (r", but for\b", "name the exceptions"),
+    (r"\bis without a\b|\bwithout bytes, at a time\b|\bat one of (the )?\w+ moments\b", "say what it has or hasn't, and when"),
+    (r"\bthat is there is\b|\bfile is meant\b|\b[Ww]ho sleeps\b", "name the thing, and say what becomes of it"),
+    (r"\bcontrol can't come\b|\breference that can't exist\b", "say that it is unreachable"),
+    (r"\blaziest\b|\b[Ee]ach landing\b|\bmore lines tell\b|\bmost are like\b|\bgoes by cases\b", "say who does what"),
+    (r"\bone of (eight|nine|ten) `|, a meeting\b|\btwo ghost members\b", "name them"),
+    (r"\bhalv(es|ing) the (file|ledger)\b|\bfinds no constant fault\b|\bWithout one clock\b", "say how, and what follows"),
+)
+ODD_COMMENT = re.compile(r"//[/!] (What|Whether|Who|Those|Of those)\b")
 
 
 def pages():
@@ -75,6 +93,52 @@ def dead_links(page):
             yield f"{target}: no such heading"
 
 
+def cells_of(line):
+    """The texts of a line: the cells of a table's row, or one."""
+    return [cell.strip() for cell in line.strip("|").split("|")] if line.startswith("|") else [line]
+
+
+def sentences_of(text):
+    """The sentences of a page, in running text, lists and cells of tables, without the targets of links."""
+    blocks, fenced = [[]], False
+    for line in text.splitlines():
+        if line.lstrip().startswith("```"):
+            fenced = not fenced
+        elif fenced or not line or line.startswith(("    ", "#")):
+            blocks.append([])
+        elif line.startswith("|"):
+            blocks += [[cell] for cell in cells_of(line)] + [[]]
+        else:
+            item = re.match(r"(\d+\.|-) ", line)
+            blocks += [[]] if item else []
+            blocks[-1].append(line[item.end() :] if item else line.strip())
+    for block in blocks:
+        yield from filter(None, re.split(r"(?<=[.?!:])\s+(?=[A-Z`*\[(])", re.sub(r"\]\([^)]*\)", "]", " ".join(block))))
+
+
+def words_of(text):
+    """Words as a reader counts them: with a letter or a digit."""
+    return [word for word in text.split() if re.search(r"[A-Za-z0-9]", word)]
+
+
+def riddles(page):
+    """Sentences over which a reader stumbles, with what to write."""
+    for sentence in sentences_of(text_of(page)):
+        for form, advice in RIDDLES:
+            if re.search(form, sentence):
+                yield f"{sentence[:60]!r}: {advice}"
+
+
+def odd_comments():
+    """Comments of declarations in the sources that begin with a question's word, and not with what the thing is or does."""
+    for where, _, names in os.walk(os.path.join(TOP, "crates")):
+        for name in sorted(names if "src" in where.split(os.sep) else ()):
+            lines = text_of(os.path.join(where, name)).splitlines() if name.endswith(".rt") else []
+            for before, line in zip(["", *lines], lines):
+                if ODD_COMMENT.match(line.lstrip()) and not before.lstrip().startswith(("///", "//!")):
+                    yield os.path.relpath(os.path.join(where, name), TOP)
+
+
 def unlisted_pages():
     """Pages of docs/ that its README doesn't name."""
     linked = {target.partition("#")[0] for target in LINK.findall(text_of(os.path.join("docs", "README.md")))}
@@ -96,52 +160,67 @@ def lacks(known, page, form="`WORD`"):
     return f"{page} lacks {', '.join(missing)}" if missing else "" if known else "the sources have none where they are looked for"
 
 
-def facts():
-    """What a reader looks up: of each kind where it stands in the program's sources, and in which page it has to stand."""
-    faults = found_in(r'"(\d [A-Z]\w*(?: \d [A-Z]\w*)?(?: \w+)?)"', "command_line", "src") - UNTOLD
-    say("documents: each fault", lacks(faults, "MESSAGES.md TABLE.md DEBUGGER.md", r"`[^`\n]*\bWORD\b"))
-    say("documents: each ending's word", lacks(found_in(r'BadReason::\w+(?: { .. })? => "([a-z]+)"', "pcap_io", "src"), "FORMATS.md", r"bad\(n, WORD\)"))
-    say("documents: each ending's message", lacks(found_in(r'BadReason::\w+(?: { .. })? => "([^"]+)"', "command_line", "src", "message.rt"), "MESSAGES.md FORMATS.md", "WORD"))
-    say("documents: each key", lacks(found_in(r'Key::\w+ => "(\w+)"', "vl_config", "src"), "TABLE.md", r"\n\| `WORD` "))
-    words = {
-        word
-        for kind, crate in (("Class", "vl_config"), ("Policing", "policing"), ("Integrity", "integrity"), ("Redundancy", "redundancy"))
-        for word in found_in(rf'{kind}::\w+ => "(\w+)"', crate, "src")
-    }
-    say("documents: each word of a verdict", lacks(words, "LEDGER.md", r"\n\| `WORD` "))
-    # Of a gap, and of what is early or in excess, it is decided what it is.
-    kinds = found_in(r'Kind::\w+ => "([a-z ]+)"', "findings", "src", "kind.rt") - {"gap", "early", "excess"}
-    say("documents: each kind of finding", lacks(kinds, "REPORT.md", "`WORD`"))
-
-
 def members_of(value):
     """The names of all members in a JSON value."""
     inner = value.values() if isinstance(value, dict) else value if isinstance(value, list) else ()
     return (set(value) if isinstance(value, dict) else set()).union(*map(members_of, inner))
 
 
-def members():
-    """Each member of report --json and of check --json, as the flight gives them."""
-    table, a, b = (os.path.join(TOP, "examples", f"flight{name}") for name in (".toml", "_a.pcap", "_b.pcap"))
-    with tempfile.TemporaryDirectory() as folder:
-        ledger, wrong = os.path.join(folder, "ledger"), os.path.join(folder, "wrong.toml")
-        with open(wrong, "w", encoding="utf-8") as out:
-            out.write("constant = 1\n")
-        subprocess.run([PROGRAM, "watch", "--config", table, "--a", a, "--b", b, "--ledger", ledger], check=True, timeout=60)
-        for page, command in (
-            ("REPORT.md", ["report", "--config", table, "--ledger", ledger, "--json"]),
-            ("MESSAGES.md", ["check", "--config", table, "--a", a, "--b", a, "--json"]),
-            ("MESSAGES.md", ["check", "--config", wrong, "--a", a, "--json"]),
-        ):
-            ran = subprocess.run([PROGRAM, *command], stdout=subprocess.PIPE, stderr=subprocess.DEVNULL, timeout=60)
-            say(f"documents: each member of {' '.join(command[:1] + command[-1:])}", lacks({name.split(".")[0] for name in members_of(json.loads(ran.stdout))}, page))
+class Documents(Case):
+    def test_pages(self):
+        for page in pages():
+            self.case(f"{page}: lines of at most {WIDTH} columns", "; ".join((wide_lines(page) + wide_commands(page))[:3]))
+            self.case(f"{page}: lists", "; ".join(list(false_lists(page))[:3]))
+            self.case(f"{page}: links", "; ".join(list(dead_links(page))[:3]))
+        self.case("docs/README.md names each page", ", ".join(unlisted_pages()))
 
+    def test_plain(self):
+        """The pages aren't too long, nor are more of their sentences than there were, and no sentence is a riddle."""
+        counts = {page: len(words_of(text_of(page))) for page in pages() if page.startswith("docs")}
+        total = sum(counts.values())
+        told = ", ".join(f"{os.path.basename(page)} {count}" for page, count in counts.items())
+        self.case(f"docs/: {total} words of at most {WORDS}: {told}", "" if total <= WORDS else "they are more")
+        for page in pages():
+            if page == "CHANGELOG.md":
+                continue
+            long = [sentence for sentence in sentences_of(text_of(page)) if len(words_of(sentence)) > LONG]
+            most = LONG_SENTENCES.get(page, 0)
+            self.case(f"{page}: at most {most} sentences above {LONG} words", "" if len(long) <= most else f"{len(long)}: {long[-1]}")
+            self.case(f"{page}: no riddles", "; ".join(list(riddles(page))[:3]))
 
-def cases():
-    for page in pages():
-        say(f"{page}: lines of at most {WIDTH} columns", "; ".join((wide_lines(page) + wide_commands(page))[:3]))
-        say(f"{page}: lists", "; ".join(list(false_lists(page))[:3]))
-        say(f"{page}: links", "; ".join(list(dead_links(page))[:3]))
-    say("docs/README.md names each page", ", ".join(unlisted_pages()))
-    facts()
-    members()
+    def test_comments(self):
+        odd = list(odd_comments())
+        self.case(f"at most {ODD_COMMENTS} comments begin as a question does", "" if len(odd) <= ODD_COMMENTS else f"{len(odd)}, the last in {odd[-1]}")
+
+    def test_facts(self):
+        """What a reader looks up: of each kind where it stands in the program's sources, and in which page it has to stand."""
+        faults = found_in(r'"(\d [A-Z]\w*(?: \d [A-Z]\w*)?(?: \w+)?)"', "command_line", "src") - UNTOLD
+        self.case("documents: each fault", lacks(faults, "MESSAGES.md TABLE.md FILTERS.md DEBUGGER.md", r"`[^`\n]*\bWORD\b"))
+        self.case("documents: each ending's word", lacks(found_in(r'BadReason::\w+(?: { .. })? => "([a-z]+)"', "pcap_io", "src"), "FORMATS.md", r"bad\(n, WORD\)"))
+        self.case("documents: each ending's message", lacks(found_in(r'BadReason::\w+(?: { .. })? => "([^"]+)"', "command_line", "src", "message.rt"), "MESSAGES.md FORMATS.md", "WORD"))
+        self.case("documents: each key", lacks(found_in(r'Key::\w+ => "(\w+)"', "vl_config", "src"), "TABLE.md", r"\n\| `WORD` "))
+        words = {
+            word
+            for kind, crate in (("Class", "vl_config"), ("Policing", "policing"), ("Integrity", "integrity"), ("Redundancy", "redundancy"))
+            for word in found_in(rf'{kind}::\w+ => "(\w+)"', crate, "src")
+        }
+        self.case("documents: each word of a verdict", lacks(words, "LEDGER.md", r"\n\| `WORD` "))
+        # Of a gap, and of what is early or in excess, it is decided what it is.
+        kinds = found_in(r'Kind::\w+ => "([a-z ]+)"', "findings", "src", "kind.rt") - {"gap", "early", "excess"}
+        self.case("documents: each kind of finding", lacks(kinds, "REPORT.md", "`WORD`"))
+
+    def test_members(self):
+        """Each member of report --json and of check --json, as the flight gives them."""
+        table, a, b = (os.path.join(TOP, "examples", f"flight{name}") for name in (".toml", "_a.pcap", "_b.pcap"))
+        with tempfile.TemporaryDirectory() as folder:
+            ledger, wrong = os.path.join(folder, "ledger"), os.path.join(folder, "wrong.toml")
+            with open(wrong, "w", encoding="utf-8") as out:
+                out.write("constant = 1\n")
+            subprocess.run([PROGRAM, "watch", "--config", table, "--a", a, "--b", b, "--ledger", ledger], check=True, timeout=60)
+            for page, command in (
+                ("REPORT.md", ["report", "--config", table, "--ledger", ledger, "--json"]),
+                ("MESSAGES.md", ["check", "--config", table, "--a", a, "--b", a, "--json"]),
+                ("MESSAGES.md", ["check", "--config", wrong, "--a", a, "--json"]),
+            ):
+                ran = subprocess.run([PROGRAM, *command], stdout=subprocess.PIPE, stderr=subprocess.DEVNULL, timeout=60)
+                self.case(f"documents: each member of {' '.join(command[:1] + command[-1:])}", lacks({name.split(".")[0] for name in members_of(json.loads(ran.stdout))}, page))

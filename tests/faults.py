@@ -5,9 +5,9 @@ are drawn by chance, from the least that must be told to large.
 """
 import struct
 
-from flights import MS, SECOND, START
-from plants import OTHER, Unfit
-from truths import Plant
+from tests.flights import MS, SECOND, START
+from tests.plants import OTHER, Unfit
+from tests.truths import Plant
 
 
 def ids(senders):

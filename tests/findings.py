@@ -5,7 +5,7 @@ which links, when and with how many signs. All else that is told is a false alar
 other flights; AFDXMON_FLIGHTS, how many flights with faults; AFDXMON_ALL, whether all sound flights, flights seen otherwise and damaged
 ledgers are run.
 
-usage: tests/findings.py PROGRAM SEED    runs one flight or ledger again, as a failure names it, and keeps its files
+usage: python3 -m tests.findings SEED    runs one flight or ledger again, as a failure names it, and keeps its files
 """
 import concurrent.futures
 import json
@@ -16,14 +16,12 @@ import subprocess
 import sys
 import tempfile
 
-import damaged
-import faults
-import plants
-import sender_faults as senders
-from harness import HERE, PROGRAM, SUCCESS, run, say
-from known import FAST, FIXED
-from plants import Unfit, World
-from truths import RANK, Told, accounting, faults_of, lines_of
+from tests import damaged, faults, plants
+from tests import sender_faults as senders
+from tests.harness import PROGRAM, SUCCESS, TOP, Case, run
+from tests.known import FAST, FIXED
+from tests.plants import Unfit, World
+from tests.truths import RANK, Told, accounting, faults_of, lines_of
 
 ALL = bool(os.environ.get("AFDXMON_ALL"))
 FLIGHTS = int(os.environ.get("AFDXMON_FLIGHTS", "1000"))
@@ -131,7 +129,7 @@ def judged(flight, truth, folder):
 
 def again_by(seed):
     """The command that runs a flight or a ledger again."""
-    return shlex.join([sys.executable, os.path.join(HERE, "findings.py"), PROGRAM, seed])
+    return f"cd {shlex.quote(TOP)} && PROGRAM={shlex.quote(PROGRAM)} python3 -m tests.findings {shlex.quote(seed)}"
 
 
 def shown(seed, truth, found, differences):
@@ -163,25 +161,6 @@ def side_by_side(work, tasks):
             yield from result
 
 
-def counts(name):
-    """Whether the case of this name counts: the others needn't be run."""
-    return os.environ.get("AFDXMON_CASE", "") in f"findings: {name}"
-
-
-def random_flights():
-    """Flights with one fault or three; the cases are by the first fault."""
-    if not any(counts(f"flights with the fault {fault.__name__}") for fault, *_ in DRAWN):
-        return
-    base, found = base_seed(), {}
-    seeds = [seed for i in range(FLIGHTS) if (seed := f"{base}/{i}") not in NOT_YET]
-    for names, fault in side_by_side(flights_of, [seeds[i : i + 20] for i in range(0, len(seeds), 20)]):
-        found.setdefault(names[0], []).append(fault)
-    for name in sorted(found):
-        wrong = [fault for fault in found[name] if fault]
-        say(f"findings: flights with the fault {name}",
-            f"{len(wrong)} are wrong\n" + "\n".join(wrong[:3]) if wrong else "")
-
-
 # ---- flights whose numbers are fixed
 
 def fixed_flight(row):
@@ -207,13 +186,6 @@ def fixed_case(places):
                 differences, found, truth = [repr(error)], None, []
             out.append((name, shown(f"fixed {name}", truth, found, differences) if differences else ""))
     return out
-
-
-def fixed_cases():
-    """The table above, each a case."""
-    places = [place for place, row in enumerate(FIXED) if counts(row[0])]
-    for name, fault in side_by_side(fixed_case, [places[i : i + 6] for i in range(0, len(places), 6)]):
-        say(f"findings: {name}", fault)
 
 
 # ---- flights without a fault
@@ -299,24 +271,6 @@ def accounts(seeds):
     return out
 
 
-def many(name, work, count, share):
-    """A case of so many flights or ledgers, so many in one piece of work."""
-    if not counts(f"{count} {name}"):
-        return
-    seeds = [f"{base_seed()}/{i}" for i in range(count)]
-    faults_found = [fault for _, fault in side_by_side(work, [seeds[i : i + share] for i in range(0, count, share)]) if fault]
-    say(f"findings: {count} {name}", f"{len(faults_found)} are wrong\n" + "\n".join(faults_found[:4]) if faults_found else "")
-
-
-def cases():
-    """All cases: by known numbers, by seeds of the commit, without a fault, seen otherwise, damaged."""
-    fixed_cases()
-    random_flights()
-    many("sound flights have nothing to tell", sound_flights, SOUND, 5)
-    many("flights seen otherwise are told alike", seen_otherwise, RELATIVES, 2)
-    many("damaged ledgers have an account of all signs", accounts, LEDGERS, 10)
-
-
 def again(seed):
     """Runs one flight or ledger again, and keeps its files."""
     folder = tempfile.mkdtemp(prefix="findings_")
@@ -335,5 +289,38 @@ def again(seed):
     return print(shown(seed, truth, found, differences), f"{folder}: {'FAILED' if differences else 'ok'}", sep="\n")
 
 
+class Findings(Case):
+    def test_fixed(self):
+        """The table of flights whose numbers are fixed, each a case."""
+        places = range(len(FIXED))
+        for name, fault in side_by_side(fixed_case, [places[i : i + 6] for i in range(0, len(places), 6)]):
+            self.case(f"findings: {name}", fault)
+
+    def test_random(self):
+        """Flights with one fault or three; the cases are by the first fault."""
+        base, found = base_seed(), {}
+        seeds = [seed for i in range(FLIGHTS) if (seed := f"{base}/{i}") not in NOT_YET]
+        for names, fault in side_by_side(flights_of, [seeds[i : i + 20] for i in range(0, len(seeds), 20)]):
+            found.setdefault(names[0], []).append(fault)
+        for name in sorted(found):
+            wrong = [fault for fault in found[name] if fault]
+            self.case(f"findings: flights with the fault {name}", f"{len(wrong)} are wrong\n" + "\n".join(wrong[:3]) if wrong else "")
+
+    def many(self, name, work, count, share):
+        """A case of so many flights or ledgers, so many in one piece of work."""
+        seeds = [f"{base_seed()}/{i}" for i in range(count)]
+        found = [fault for _, fault in side_by_side(work, [seeds[i : i + share] for i in range(0, count, share)]) if fault]
+        self.case(f"findings: {count} {name}", f"{len(found)} are wrong\n" + "\n".join(found[:4]) if found else "")
+
+    def test_sound(self):
+        self.many("sound flights have nothing to tell", sound_flights, SOUND, 5)
+
+    def test_seen_otherwise(self):
+        self.many("flights seen otherwise are told alike", seen_otherwise, RELATIVES, 2)
+
+    def test_damaged(self):
+        self.many("damaged ledgers have an account of all signs", accounts, LEDGERS, 10)
+
+
 if __name__ == "__main__":
-    again(sys.argv[2])
+    again(sys.argv[1])

@@ -7,7 +7,7 @@ import json
 import random
 from collections import namedtuple
 
-from harness import frame, header, record
+from tests.harness import frame, header, record
 
 START = 1_800_000_000 * 10**9
 MS, SECOND = 10**6, 10**9

@@ -1,8 +1,8 @@
 """What the tests of the program share: running it, comparing what it leaves, and building recordings.
 
-The program is the first argument, bin/afdxmon by default. Of the environment: AFDXMON_CASE, a word that the names of the cases have
-that count; AFDXMON_KEEP, whether the folders of cases stay; AFDXMON_FIRST_FAILURE, whether the first failure ends a run.
+The environment names the program as PROGRAM: bin/afdxmon by default.
 """
+import functools
 import os
 import pty
 import random
@@ -10,22 +10,25 @@ import shlex
 import shutil
 import struct
 import subprocess
-import sys
 import tempfile
+import unittest
 
 HERE = os.path.dirname(os.path.abspath(__file__))
 TOP = os.path.dirname(HERE)
-PROGRAM = os.path.abspath(sys.argv[1] if len(sys.argv) > 1 else os.path.join(TOP, "bin", "afdxmon"))
+RELEASED = os.path.join(TOP, "bin", "afdxmon")
+PROGRAM = os.path.abspath(os.environ.get("PROGRAM", RELEASED))
 EVERY = "1,6 0 0 4294967295,"
 LINK5 = "4,40 0 0 4,21 0 1 5,6 0 0 4294967295,6 0 0 0,"
 FIRST_64 = "1,6 0 0 64,"
 # ld len, sub #1, tax, ldb [x + 0], jset #1, ret #-1, ret #0: an odd sequence number, the last byte of each frame
 ODD = "7,128 0 0 0,20 0 0 1,7 0 0 0,80 0 0 0,69 0 1 1,6 0 0 4294967295,6 0 0 0,"
 USAGE, FAULT, SUCCESS = 2, 1, 0
-results = {"passed": 0, "failed": 0, "part": None}
 patience = {"seconds": 60}
-if os.environ.get("AFDXMON_KEEP"):
-    tempfile.TemporaryDirectory.cleanup = lambda self: self._finalizer.detach()
+# The run that ended last in a test, if one did.
+recent = []
+COMMAND = "; the command: "
+# A traceback ends where a test calls what stands here.
+__unittest = True
 
 
 def record(stamp, data, layout="<", unit=1, original=None):
@@ -67,39 +70,50 @@ def recording(frames, layout="<", unit=1, sizes=(60, 1514)):
     return b"".join(out)
 
 
-def again(name):
-    """The command that runs a case again, and keeps its files."""
-    script = os.path.join(HERE, "program") if results["part"] else os.path.abspath(sys.argv[0])
-    words = [script, PROGRAM, results["part"], "-k", name, "--keep"] if results["part"] else [script]
-    return shlex.join(words)
+class Case(unittest.TestCase):
+    """A test of the program, whose cases are its subTests; one without them is a case itself."""
 
+    failed = False
 
-def say(name, fault):
-    if os.environ.get("AFDXMON_CASE", "") not in name:
-        return
-    results["failed" if fault else "passed"] += 1
-    print(f"program: {name}: {'FAILED: ' + fault if fault else 'ok'}", flush=True)
-    if fault:
-        print(f"program: again by: {again(name)}", flush=True)
-    if fault and os.environ.get("AFDXMON_FIRST_FAILURE"):
-        print(f"{results['passed']} passed, {results['failed']} failed")
-        sys.exit(1)
+    @functools.cached_property
+    def folder(self):
+        """The path of this test's folder, which stays where a case failed."""
+        folder = tempfile.TemporaryDirectory()
+        self.addCleanup(lambda: folder._finalizer.detach() if self.failed else folder.cleanup())
+        return os.path.realpath(folder.name)
 
+    def run(self, result=None):
+        recent.clear()
+        return super().run(result)
 
-def skip(name, why):
-    """A case that this machine lacks something for: neither passed nor failed."""
-    print(f"program: {name}: skipped: {why}", flush=True)
+    def case(self, name, fault):
+        """A case, which fails by a fault that isn't empty. A failure shows the program's command, and the one that runs the test again
+        up to its first failure."""
+        with self.subTest(name):
+            if fault:
+                self.failed = True
+                if recent and COMMAND not in fault:
+                    fault += COMMAND + command_of(recent[0])
+                program = "" if PROGRAM == RELEASED else f"PROGRAM={shlex.quote(PROGRAM)} "
+                self.fail(f"{fault}\nagain by: cd {shlex.quote(TOP)} && {program}python3 -m unittest -f {self.id()}")
+
+    def judge(self, name, ran, status, line, out=None):
+        """A case: a run with this status, this whole standard error and, where it is given, this standard output."""
+        self.case(name, difference(ran, status, line, out))
+
+    def skip(self, name, why):
+        """A case that this machine lacks something for: neither passed nor failed."""
+        with self.subTest(name):
+            self.skipTest(why)
 
 
 def command_of(ran):
-    """The command of a run, as a shell takes it. What it was given on standard input stands in a file where folders are kept."""
+    """The command of a run that failed, as a shell takes it. What it was given on standard input stands in a file."""
     words, given = shlex.join(map(str, ran.args)), getattr(ran, "given", None)
-    if given and os.environ.get("AFDXMON_KEEP"):
+    if given:
         with tempfile.NamedTemporaryFile(prefix="standard_input_", delete=False) as file:
             file.write(given if isinstance(given, bytes) else given.encode())
         words += f" < {file.name}"
-    elif given:
-        words += f" < ({len(given)} bytes)"
     where = getattr(ran, "folder", None)
     return f"cd {shlex.quote(str(where))} && {words}" if where else words
 
@@ -107,7 +121,7 @@ def command_of(ran):
 def difference(ran, status, line, out=None):
     """How a run differs from the status, the whole of standard error and, where it is given, standard output; and its command."""
     fault = how_it_differs(ran, status, line, out)
-    return f"{fault}; the command: {command_of(ran)}" if fault else ""
+    return fault + COMMAND + command_of(ran) if fault else ""
 
 
 def how_it_differs(ran, status, line, out):
@@ -122,10 +136,6 @@ def how_it_differs(ran, status, line, out):
     return ""
 
 
-def judge(name, ran, status, line, out=None):
-    say(name, difference(ran, status, line, out))
-
-
 def ended(command, **how):
     """Runs a command to its end. One that goes on for a minute is ended, which its status says; later ones have less time."""
     try:
@@ -135,6 +145,7 @@ def ended(command, **how):
         patience["seconds"] = 10
         ran = subprocess.CompletedProcess(command, status, late.stdout or b"", late.stderr or b"")
     ran.given, ran.folder = how.get("input"), how.get("cwd")
+    recent[:] = [ran]
     return ran
 
 

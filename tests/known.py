@@ -1,6 +1,6 @@
 """Faults with their sizes, and the flights that they are planted in: the fixed cases of tests/findings.py."""
-import faults
-import sender_faults as senders
+from tests import faults
+from tests import sender_faults as senders
 
 FAST, SLOW, LATE = {}, {"period": 100}, {"period": 100, "skew": 1000}
 MANY = {"links": 60, "seconds": 20, "bag": 64, "period": 100}

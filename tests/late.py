@@ -7,14 +7,13 @@ import os
 import random
 import shutil
 import subprocess
-import tempfile
 
-import pairs
-from analyser import watch
-from harness import EVERY, SUCCESS, USAGE, difference, frame, header, record, run, say, skip
-from reference import HEADER, disorder, lateness_after, parse, record_of
-from texts import MISUSE, usage_error
-from watching import TABLE, Desk
+from tests import pairs
+from tests.analyser import watch
+from tests.harness import EVERY, SUCCESS, USAGE, difference, frame, header, record, run
+from tests.reference import HEADER, disorder, lateness_after, parse, record_of
+from tests.texts import MISUSE, usage_error
+from tests.watching import TABLE, AtADesk
 
 US = 1000
 # Windows in microseconds: both bounds and between, and every order.
@@ -54,93 +53,84 @@ def note_on(command, recording, window, who="recording"):
     return frames, f"afdxmon: note: {who} ends bad after {count} frame{'' if count == '1' else 's'}: timestamp out of order{late}"
 
 
-def captures(work, name, recording):
-    path = os.path.join(work, "in.pcap")
-    with open(path, "wb") as out:
-        out.write(recording)
-    for window in WINDOWS:
-        frames, note = note_on("capture", recording, window)
-        expected = HEADER + b"".join(record_of(*one) for one in frames)
-        faults = []
-        for source, how in (([path], {"stdin": subprocess.DEVNULL}), ([], {"input": recording})):
-            ran = run(["capture", "--code", EVERY, *given(window), *source], stdout=subprocess.PIPE, **how)
-            faults.append(difference(ran, SUCCESS, note, expected))
-        say(f"late: capture {name}, --late-us {window}", faults[0] or faults[1])
-
-
-def debugs(work, name, recording):
-    paths = [os.path.join(work, name) for name in ("filter", "tap.pcap")]
-    for path, content in zip(paths, (EVERY.encode(), recording)):
+class Late(AtADesk):
+    def captures(self, name, recording):
+        path = os.path.join(self.folder, "in.pcap")
         with open(path, "wb") as out:
-            out.write(content)
-    for window in WINDOWS:
-        frames, note = note_on("debug", recording, window)
-        ran = run(["debug", "--filter", paths[0], "--tap", paths[1], *given(window)], input=b"", stdout=subprocess.PIPE)
-        say(f"late: debug {name}, --late-us {window}", difference(ran, SUCCESS, note, f"frames {len(frames)}\n".encode()))
+            out.write(recording)
+        for window in WINDOWS:
+            frames, note = note_on("capture", recording, window)
+            expected = HEADER + b"".join(record_of(*one) for one in frames)
+            faults = []
+            for source, how in (([path], {"stdin": subprocess.DEVNULL}), ([], {"input": recording})):
+                ran = run(["capture", "--code", EVERY, *given(window), *source], stdout=subprocess.PIPE, **how)
+                faults.append(difference(ran, SUCCESS, note, expected))
+            self.case(f"late: capture {name}, --late-us {window}", faults[0] or faults[1])
 
+    def debugs(self, name, recording):
+        paths = [os.path.join(self.folder, name) for name in ("filter", "tap.pcap")]
+        for path, content in zip(paths, (EVERY.encode(), recording)):
+            with open(path, "wb") as out:
+                out.write(content)
+        for window in WINDOWS:
+            frames, note = note_on("debug", recording, window)
+            ran = run(["debug", "--filter", paths[0], "--tap", paths[1], *given(window)], input=b"", stdout=subprocess.PIPE)
+            self.case(f"late: debug {name}, --late-us {window}", difference(ran, SUCCESS, note, f"frames {len(frames)}\n".encode()))
 
-def peer(work):
-    """tcpdump keeps every frame, whatever its timestamp."""
-    if not shutil.which("tcpdump"):
-        skip("late: --late-us any beside tcpdump", "no tcpdump here")
-        return
-    path, kept = os.path.join(work, "in.pcap"), os.path.join(work, "kept.pcap")
-    for seed in range(3):
-        with open(path, "wb") as out:
-            out.write(disordered(random.Random(seed), 2000, 10**9 * seed))
-        subprocess.run(["tcpdump", "--nano", "-r", path, "-w", kept], capture_output=True, check=True, timeout=60)
-        ran = run(["capture", "--code", EVERY, "--late-us", "any", path], stdin=subprocess.DEVNULL, stdout=subprocess.PIPE)
-        with open(kept, "rb") as file:
-            theirs = file.read()
-        say(f"late: --late-us any beside tcpdump, {seed}", difference(ran, SUCCESS, "", HEADER + theirs[24:]))
-
-
-def watched(desk):
-    """The option stands in place of the table's window, be that greater or less or none."""
-    chance = random.Random(5)
-    for in_table in (None, 0, 3, 1000):
-        for window in (None, "0", "1", "3", "1000", "1000000"):
-            _, code, a, b = pairs.pair(chance)
-            a, b = disordered(chance, 40, 2000), disordered(chance, 40, 2 * 10**6)
-            head, rest = TABLE.split("\n", 1)
-            table = f"{head}\n" + ("" if in_table is None else f"late_us = {in_table}\n") + rest
-            wanted = f"{head}\nlate_us = {window if window is not None else in_table or 0}\n{rest}"
-            expected = watch(wanted, code, a, b)
-            desk.lay(config=table, filter=code, a=a, b=b)
-            fault = desk.agrees(desk.watch(*given(window)), expected.capture, expected.lines + expected.summary)
-            ran = run([*desk.arguments(a="-"), *given(window)], input=a, stdout=subprocess.PIPE)
-            fault = fault or desk.agrees(ran, expected.capture, expected.lines + expected.summary)
-            say(f"late: watch --late-us {window}, late_us = {in_table}", fault)
-
-
-def refused(desk):
-    """What is no window is refused, and nothing is written."""
-    desk.lay(config=TABLE, filter=EVERY, a=header(), b=header())
-    wrong = ("", " ", "-1", "1.5", "1000001", "18446744073709551616", "any ", "ANY", "all", "0x10", "1us")
-    commands = {
-        "capture": ["capture", "--code", EVERY],
-        "debug": ["debug", "--filter", desk.paths["filter"], "--tap", desk.paths["a"]],
-        "watch": desk.arguments(),
-    }
-    for command, arguments in commands.items():
-        for text in wrong + (("any",) if command == "watch" else ()):
-            whole = usage_error(command, MISUSE["Unordered" if text == "any" else "NoLateness"])
-            ran = run([*arguments, f"--late-us={text}"], input=b"", stdout=subprocess.PIPE)
-            fault = difference(ran, USAGE, lambda told, whole=whole: told == whole, b"")
-            say(f"late: {command} --late-us={text}", fault or desk.compared("ledger", b"older"))
-
-
-def cases():
-    with tempfile.TemporaryDirectory() as work:
+    def test_windows(self):
         for name, recording in (
             ("disorder of 20 us", disordered(random.Random(1), 400, 20 * US)),
             ("disorder of 2 s", disordered(random.Random(2), 400, 2 * 10**9)),
             ("order", disordered(random.Random(3), 400, 0)),
             *((f"a frame {late} ns late", steps(late)) for late in (1, 999, US, US + 1, 13 * US, 13 * US + 204, 999999 * US, 10**9 - 1, 10**9, 10**9 + 1, 3 * 10**9)),
         ):
-            captures(work, name, recording)
-            debugs(work, name, recording)
-        peer(work)
-        desk = Desk(work)
-        watched(desk)
-        refused(desk)
+            self.captures(name, recording)
+            self.debugs(name, recording)
+
+    def test_peer(self):
+        """tcpdump keeps every frame, whatever its timestamp."""
+        if not shutil.which("tcpdump"):
+            self.skip("late: --late-us any beside tcpdump", "no tcpdump here")
+            return
+        path, kept = os.path.join(self.folder, "in.pcap"), os.path.join(self.folder, "kept.pcap")
+        for seed in range(3):
+            with open(path, "wb") as out:
+                out.write(disordered(random.Random(seed), 2000, 10**9 * seed))
+            subprocess.run(["tcpdump", "--nano", "-r", path, "-w", kept], capture_output=True, check=True, timeout=60)
+            ran = run(["capture", "--code", EVERY, "--late-us", "any", path], stdin=subprocess.DEVNULL, stdout=subprocess.PIPE)
+            with open(kept, "rb") as file:
+                theirs = file.read()
+            self.case(f"late: --late-us any beside tcpdump, {seed}", difference(ran, SUCCESS, "", HEADER + theirs[24:]))
+
+    def test_watched(self):
+        """The option stands in place of the table's window, be that greater or less or none."""
+        chance = random.Random(5)
+        for in_table in (None, 0, 3, 1000):
+            for window in (None, "0", "1", "3", "1000", "1000000"):
+                _, code, a, b = pairs.pair(chance)
+                a, b = disordered(chance, 40, 2000), disordered(chance, 40, 2 * 10**6)
+                head, rest = TABLE.split("\n", 1)
+                table = f"{head}\n" + ("" if in_table is None else f"late_us = {in_table}\n") + rest
+                wanted = f"{head}\nlate_us = {window if window is not None else in_table or 0}\n{rest}"
+                expected = watch(wanted, code, a, b)
+                self.desk.lay(config=table, filter=code, a=a, b=b)
+                fault = self.desk.agrees(self.desk.watch(*given(window)), expected.capture, expected.lines + expected.summary)
+                ran = run([*self.desk.arguments(a="-"), *given(window)], input=a, stdout=subprocess.PIPE)
+                fault = fault or self.desk.agrees(ran, expected.capture, expected.lines + expected.summary)
+                self.case(f"late: watch --late-us {window}, late_us = {in_table}", fault)
+
+    def test_refused(self):
+        """What is no window is refused, and nothing is written."""
+        self.desk.lay(config=TABLE, filter=EVERY, a=header(), b=header())
+        wrong = ("", " ", "-1", "1.5", "1000001", "18446744073709551616", "any ", "ANY", "all", "0x10", "1us")
+        commands = {
+            "capture": ["capture", "--code", EVERY],
+            "debug": ["debug", "--filter", self.desk.paths["filter"], "--tap", self.desk.paths["a"]],
+            "watch": self.desk.arguments(),
+        }
+        for command, arguments in commands.items():
+            for text in wrong + (("any",) if command == "watch" else ()):
+                whole = usage_error(command, MISUSE["Unordered" if text == "any" else "NoLateness"])
+                ran = run([*arguments, f"--late-us={text}"], input=b"", stdout=subprocess.PIPE)
+                fault = difference(ran, USAGE, lambda told, whole=whole: told == whole, b"")
+                self.case(f"late: {command} --late-us={text}", fault or self.desk.compared("ledger", b"older"))

@@ -8,13 +8,12 @@ import random
 import re
 import struct
 import subprocess
-import tempfile
 from decimal import ROUND_HALF_UP, Decimal
 from itertools import accumulate
 
-from check import counted, moment
-from harness import EVERY, FAULT, SUCCESS, difference, frame, header, record, run, say
-from reference import parse
+from tests.check import counted, moment
+from tests.harness import EVERY, FAULT, SUCCESS, Case, difference, frame, header, record, run
+from tests.reference import parse
 
 MS = 10**6
 BAGS = [MS << power for power in range(8)]
@@ -328,52 +327,13 @@ def ledger_of(work, config, a, b):
         return ran, file.read()
 
 
-def judged(work, name, text, a, b):
-    """`watch` with the draft: no verdict that the draft rules out."""
-    config = os.path.join(work, "draft.toml")
-    with open(config, "w", encoding="utf-8") as file:
-        file.write(text)
-    ran, ledger = ledger_of(work, config, a, b)
-    lines = [line for line in ledger.splitlines() if line[:1].isdigit()]
-    allowed = {"excess"} if "more than a table allows" in text else set()
-    several = {"foreign"} if "constant field" in text else set()
-    beyond = {"unconfigured"} if "beyond the first" in text else set()
-    found = {word for line in lines for word in line.split()} & WRONG - allowed - several - beyond
-    say(f"links: watch with the draft, {name}", f"status {ran.returncode}" if ran.returncode else " ".join(sorted(found)))
-
-
-def constants(work):
-    """The constant field that the draft is to have."""
-    path = os.path.join(work, "a")
-    data = header() + b"".join(record(START + k * MS, bytes([3 + 4 * (k % 3 == 0)]) + frame(k % 7, 80, k)[1:]) for k in range(60))
-    with open(path, "wb") as file:
-        file.write(data)
-    for text, constant in (("0x03000000", GROUP), ("50331648", GROUP), ("0x07000000", 0x07000000), ("117440512", 0x07000000), ("0xffffffff", 2**32 - 1)):
-        ran = run(["links", "--a", path, "--constant", text], stdout=subprocess.PIPE)
-        say(f"links: --constant {text}", difference(ran, SUCCESS, "", draft(data, None, constant).encode()))
-    for text in ("5", "0x", "", "0x01000000", "0x100000000", "4294967296", "-1", "3 0", "0x3g"):
-        ran = run(["links", "--a", path, f"--constant={text}"], stdout=subprocess.PIPE)
-        say(f"links: --constant '{text}' is refused", difference(ran, FAULT, "afdxmon: links 1 Constant", b""))
-
-
-def of_pcapng(work):
-    """A pcapng recording has the draft of the pcap file that it was made of."""
-    paths = [os.path.join(work, name) for name in ("in.pcap", "in.pcapng")]
-    (data, _) = sent(random.Random(12), table(random.Random(13), 9), 50)
-    with open(paths[0], "wb") as file:
-        file.write(data)
-    run(["capture", "--code", EVERY, paths[0], "-o", paths[1], "--pcapng"], stdout=subprocess.PIPE)
-    ran = run(["links", "--a", paths[1]], stdout=subprocess.PIPE)
-    say("links: a pcapng recording", difference(ran, SUCCESS, "", draft(data, None).encode()))
-
-
-def cases():
-    with tempfile.TemporaryDirectory() as work:
+class Links(Case):
+    def test_pairs(self):
         for name, (a, b) in pairs():
             given = []
             for option, recording in (("a", a), ("b", b)):
                 if recording is not None:
-                    path = os.path.join(work, option)
+                    path = os.path.join(self.folder, option)
                     with open(path, "wb") as file:
                         file.write(recording)
                     given += [f"--{option}", path]
@@ -383,7 +343,41 @@ def cases():
             cut = re.search("# Links that aren't here, since all their frames are cut short: (.*)\\.\n", text)
             note = f"afdxmon: note: not drafted, since all their frames are cut short: links {cut[1]}" if cut else ""
             note = (lambda told: told.startswith("afdxmon: note: ")) if early else note
-            say(f"links: {name}", difference(ran, SUCCESS, note, text.encode()))
-            judged(work, name, text, a, b)
-        constants(work)
-        of_pcapng(work)
+            self.case(f"links: {name}", difference(ran, SUCCESS, note, text.encode()))
+            self.judged(name, text, a, b)
+
+    def judged(self, name, text, a, b):
+        """`watch` with the draft: no verdict that the draft rules out."""
+        config = os.path.join(self.folder, "draft.toml")
+        with open(config, "w", encoding="utf-8") as file:
+            file.write(text)
+        ran, ledger = ledger_of(self.folder, config, a, b)
+        lines = [line for line in ledger.splitlines() if line[:1].isdigit()]
+        allowed = {"excess"} if "more than a table allows" in text else set()
+        several = {"foreign"} if "constant field" in text else set()
+        beyond = {"unconfigured"} if "beyond the first" in text else set()
+        found = {word for line in lines for word in line.split()} & WRONG - allowed - several - beyond
+        self.case(f"links: watch with the draft, {name}", f"status {ran.returncode}" if ran.returncode else " ".join(sorted(found)))
+
+    def test_constants(self):
+        """The constant field that the draft is to have."""
+        path = os.path.join(self.folder, "a")
+        data = header() + b"".join(record(START + k * MS, bytes([3 + 4 * (k % 3 == 0)]) + frame(k % 7, 80, k)[1:]) for k in range(60))
+        with open(path, "wb") as file:
+            file.write(data)
+        for text, constant in (("0x03000000", GROUP), ("50331648", GROUP), ("0x07000000", 0x07000000), ("117440512", 0x07000000), ("0xffffffff", 2**32 - 1)):
+            ran = run(["links", "--a", path, "--constant", text], stdout=subprocess.PIPE)
+            self.case(f"links: --constant {text}", difference(ran, SUCCESS, "", draft(data, None, constant).encode()))
+        for text in ("5", "0x", "", "0x01000000", "0x100000000", "4294967296", "-1", "3 0", "0x3g"):
+            ran = run(["links", "--a", path, f"--constant={text}"], stdout=subprocess.PIPE)
+            self.case(f"links: --constant '{text}' is refused", difference(ran, FAULT, "afdxmon: links 1 Constant", b""))
+
+    def test_of_pcapng(self):
+        """A pcapng recording has the draft of the pcap file that it was made of."""
+        paths = [os.path.join(self.folder, name) for name in ("in.pcap", "in.pcapng")]
+        (data, _) = sent(random.Random(12), table(random.Random(13), 9), 50)
+        with open(paths[0], "wb") as file:
+            file.write(data)
+        run(["capture", "--code", EVERY, paths[0], "-o", paths[1], "--pcapng"], stdout=subprocess.PIPE)
+        ran = run(["links", "--a", paths[1]], stdout=subprocess.PIPE)
+        self.case("links: a pcapng recording", difference(ran, SUCCESS, "", draft(data, None).encode()))

@@ -11,8 +11,8 @@ import threading
 import time
 from array import array
 
-from harness import EVERY, PROGRAM, SUCCESS, difference, frame, header, judge, record, run, say
-from watching import NO_FAULT, TABLE
+from tests.harness import EVERY, PROGRAM, SUCCESS, difference, frame, header, record, run
+from tests.watching import NO_FAULT, TABLE, AtADesk
 
 STEP = 10**6
 FRAMES = [frame(5, 60, number) for number in range(256)]
@@ -94,49 +94,6 @@ def ledger_of(frames, kept, accepted):
     yield totals(frames, accepted)
 
 
-def a_million(desk):
-    """One recording of 80 MB, more than a million frames: as both taps of watch, and for capture."""
-    frames = MORE_THAN_A_MILLION
-    path = os.path.join(desk.directory, "long.pcap")
-    write(path, pieces(frames))
-    ones = [packet(i) for i in range(0, frames, 255)]
-    desk.lay(config=TABLE, filter=ONE_OF_255, a=b"", b=b"")
-    fault = difference(desk.watch(a=path, b=path), SUCCESS, "", b"")
-    fault = fault or compared(desk.paths["capture"], [header(), b"".join(one * 2 for one in ones)])
-    say(f"watch: {frames} frames a tap", fault or compared(desk.paths["ledger"], ledger_of(frames, of_255, 2 * len(ones))))
-    with open(path, "rb") as given:
-        ran = run(["capture", "--code", ONE_OF_255], stdin=given, stdout=subprocess.PIPE)
-    judge(f"capture: {frames} frames", ran, SUCCESS, "", header() + b"".join(ones))
-    with open(path, "rb") as given, open(desk.paths["capture"], "wb") as out:
-        fault = difference(run(["capture", "--code", EVERY], stdin=given, stdout=out), SUCCESS, "")
-    say(f"capture: {frames} frames, all", fault or compared(desk.paths["capture"], pieces(frames)))
-    os.remove(path)
-
-
-def debugged(desk):
-    """Recordings for `debug`: above 32 MiB, and of 10^5 frames."""
-    large = header() + b"".join(record(i, frame(5, 262144, i + 1)) for i in range(140))
-    many = b"".join(pieces(100_000))
-    start = "at 0 pc 0 A 0 X 0 M" + " 0" * 16 + "\n"
-    for name, given, count in (("36 MB", large, 140), ("100000 frames", many, 100_000)):
-        desk.lay(filter=EVERY, a=given)
-        arguments = ["debug", "--filter", desk.paths["filter"], "--tap", desk.paths["a"]]
-        ran = run(arguments, input=f"select {count - 1}\ntally\n".encode(), stdout=subprocess.PIPE)
-        judge(f"debug: {name}", ran, SUCCESS, "", f"frames {count}\n{start}tally accepted {count} rejected 0\n".encode())
-
-
-def widest_window(desk):
-    """Frames that come as late as a window of a second allows: blocks of 900 frames in falling order, 899 ms wide."""
-    frames, block = 90_000, 900
-    places = [first + i for first in range(0, frames, block) for i in reversed(range(block))]
-    given = header() + b"".join(map(packet, places))
-    desk.lay(config="late_us = 1000000\n" + TABLE, filter=ONE_OF_255, a=given, b=given)
-    ones = [packet(i) * 2 for i in range(0, frames, 255)]
-    fault = difference(desk.watch("--workers", "8"), SUCCESS, "", b"") or compared(desk.paths["capture"], [header(), *ones])
-    ledger = [b"afdx-ledger 2\n", lines(0, frames, lambda i: i - i % block + block - 1 - i % block, of_255), totals(frames, 2 * len(ones))]
-    say(f"watch: {frames} frames a tap in a window of a second", fault or compared(desk.paths["ledger"], ledger))
-
-
 def unread(descriptor):
     """How many bytes of a pipe or terminal nobody has read yet."""
     count = array("i", [0])
@@ -186,28 +143,62 @@ def peak(arguments, pipes, frames):
     return None if child.returncode or told else most
 
 
-def memory(desk):
-    """A recording that is 30 times as long takes no more memory: both are longer than all that a run holds at once."""
-    pipes = [os.path.join(desk.directory, "pipe_" + network) for network in ("a", "b")]
-    for pipe in pipes:
-        os.mkfifo(pipe)
-    desk.lay(config=TABLE, filter=ONE_OF_255, a=b"", b=b"")
-    for command, arguments, given in (
-        ("watch", desk.arguments(a=pipes[0], b=pipes[1]), pipes),
-        ("capture", ["capture", "--code", ONE_OF_255], pipes[:1]),
-    ):
-        short, long = (peak(arguments, given, frames) for frames in (10_000, 300_000))
-        name = f"{command}: the peak memory over 300000 frames beside 10000"
-        if short is None or long is None:
-            say(name, "a run failed")
-        else:
-            say(name, "" if long <= 1.5 * short + 4 * MIB else f"{long} bytes beside {short}")
-    for pipe in pipes:
-        os.remove(pipe)
+class Long(AtADesk):
+    def test_a_million(self):
+        """One recording of 80 MB, more than a million frames: as both taps of watch, and for capture."""
+        frames = MORE_THAN_A_MILLION
+        path = os.path.join(self.desk.directory, "long.pcap")
+        write(path, pieces(frames))
+        ones = [packet(i) for i in range(0, frames, 255)]
+        self.desk.lay(config=TABLE, filter=ONE_OF_255, a=b"", b=b"")
+        fault = difference(self.desk.watch(a=path, b=path), SUCCESS, "", b"")
+        fault = fault or compared(self.desk.paths["capture"], [header(), b"".join(one * 2 for one in ones)])
+        self.case(f"watch: {frames} frames a tap", fault or compared(self.desk.paths["ledger"], ledger_of(frames, of_255, 2 * len(ones))))
+        with open(path, "rb") as given:
+            ran = run(["capture", "--code", ONE_OF_255], stdin=given, stdout=subprocess.PIPE)
+        self.judge(f"capture: {frames} frames", ran, SUCCESS, "", header() + b"".join(ones))
+        with open(path, "rb") as given, open(self.desk.paths["capture"], "wb") as out:
+            fault = difference(run(["capture", "--code", EVERY], stdin=given, stdout=out), SUCCESS, "")
+        self.case(f"capture: {frames} frames, all", fault or compared(self.desk.paths["capture"], pieces(frames)))
+        os.remove(path)
 
+    def test_debugged(self):
+        """Recordings for `debug`: above 32 MiB, and of 10^5 frames."""
+        large = header() + b"".join(record(i, frame(5, 262144, i + 1)) for i in range(140))
+        many = b"".join(pieces(100_000))
+        start = "at 0 pc 0 A 0 X 0 M" + " 0" * 16 + "\n"
+        for name, given, count in (("36 MB", large, 140), ("100000 frames", many, 100_000)):
+            self.desk.lay(filter=EVERY, a=given)
+            arguments = ["debug", "--filter", self.desk.paths["filter"], "--tap", self.desk.paths["a"]]
+            ran = run(arguments, input=f"select {count - 1}\ntally\n".encode(), stdout=subprocess.PIPE)
+            self.judge(f"debug: {name}", ran, SUCCESS, "", f"frames {count}\n{start}tally accepted {count} rejected 0\n".encode())
 
-def cases(desk):
-    a_million(desk)
-    debugged(desk)
-    widest_window(desk)
-    memory(desk)
+    def test_widest_window(self):
+        """Frames that come as late as a window of a second allows: blocks of 900 frames in falling order, 899 ms wide."""
+        frames, block = 90_000, 900
+        places = [first + i for first in range(0, frames, block) for i in reversed(range(block))]
+        given = header() + b"".join(map(packet, places))
+        self.desk.lay(config="late_us = 1000000\n" + TABLE, filter=ONE_OF_255, a=given, b=given)
+        ones = [packet(i) * 2 for i in range(0, frames, 255)]
+        fault = difference(self.desk.watch("--workers", "8"), SUCCESS, "", b"") or compared(self.desk.paths["capture"], [header(), *ones])
+        ledger = [b"afdx-ledger 2\n", lines(0, frames, lambda i: i - i % block + block - 1 - i % block, of_255), totals(frames, 2 * len(ones))]
+        self.case(f"watch: {frames} frames a tap in a window of a second", fault or compared(self.desk.paths["ledger"], ledger))
+
+    def test_memory(self):
+        """A recording that is 30 times as long takes no more memory: both are longer than all that a run holds at once."""
+        pipes = [os.path.join(self.desk.directory, "pipe_" + network) for network in ("a", "b")]
+        for pipe in pipes:
+            os.mkfifo(pipe)
+        self.desk.lay(config=TABLE, filter=ONE_OF_255, a=b"", b=b"")
+        for command, arguments, given in (
+            ("watch", self.desk.arguments(a=pipes[0], b=pipes[1]), pipes),
+            ("capture", ["capture", "--code", ONE_OF_255], pipes[:1]),
+        ):
+            short, long = (peak(arguments, given, frames) for frames in (10_000, 300_000))
+            name = f"{command}: the peak memory over 300000 frames beside 10000"
+            if short is None or long is None:
+                self.case(name, "a run failed")
+            else:
+                self.case(name, "" if long <= 1.5 * short + 4 * MIB else f"{long} bytes beside {short}")
+        for pipe in pipes:
+            os.remove(pipe)

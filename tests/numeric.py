@@ -6,7 +6,7 @@ of an item, and the first fault has the byte offset that the table there gives i
 import re
 import subprocess
 
-from harness import FAULT, header, run, say
+from tests.harness import FAULT, Case, header, run
 
 TEXT = b"4,40 0 0 12,21 0 1 2054,6 0 0 4294967295,6 0 0 0,"
 # Each byte of the form, its neighbours, and others that look like blanks, signs or the beginning of a number.
@@ -89,11 +89,16 @@ def changed():
         yield TEXT[:at] + "\u00a0".encode() + TEXT[at:]
 
 
-def cases(_desk):
-    faults = [fault for fault in (agrees(TEXT[:length]) for length in range(len(TEXT) + 1)) if fault]
-    say("the numeric form: every prefix of a filter", "; ".join(faults[:3]))
-    texts = list(changed())
-    faults = [fault for fault in map(agrees, texts) if fault]
-    say(f"the numeric form: {len(texts)} texts that differ in a byte", "; ".join(faults[:3]))
-    for text in OTHERS:
-        say(f"the numeric form: {text!r}", agrees(text))
+class Numeric(Case):
+    def test_prefixes(self):
+        faults = [fault for fault in (agrees(TEXT[:length]) for length in range(len(TEXT) + 1)) if fault]
+        self.case("the numeric form: every prefix of a filter", "; ".join(faults[:3]))
+
+    def test_changed(self):
+        texts = list(changed())
+        faults = [fault for fault in map(agrees, texts) if fault]
+        self.case(f"the numeric form: {len(texts)} texts that differ in a byte", "; ".join(faults[:3]))
+
+    def test_others(self):
+        for text in OTHERS:
+            self.case(f"the numeric form: {text!r}", agrees(text))

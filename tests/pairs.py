@@ -1,7 +1,7 @@
 """Small pairs of recordings with a table and filters, made by chance, for the tests of `afdxmon watch`."""
 import struct
 
-from harness import EVERY, FIRST_64, LINK5, ODD, header, record
+from tests.harness import EVERY, FIRST_64, LINK5, ODD, header, record
 
 # ldb [5], st M[1], tax, ldb [x + 0], add x, ldx M[1], sub x, ret a: the byte at the offset that the link's low byte says
 BY_LINK = "8,48 0 0 5,2 0 0 1,7 0 0 0,80 0 0 0,12 0 0 0,97 0 0 1,28 0 0 0,22 0 0 0,"

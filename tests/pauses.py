@@ -1,17 +1,17 @@
 """Tests of what a terminal is told where one network gives nothing for 10 s while the other isn't read: two pipes that one
 writer fills, one after the other.
 """
+import concurrent.futures
 import os
 import subprocess
-import tempfile
 import threading
 import time
 
-from analyser import watch
-from harness import EVERY, PROGRAM, SUCCESS, frame, say, shown
-from progress import Screen
-from summaries import summary_of
-from watching import TABLE, Desk, tap
+from tests.analyser import watch
+from tests.harness import EVERY, PROGRAM, SUCCESS, Case, frame, shown
+from tests.progress import Screen
+from tests.summaries import summary_of
+from tests.watching import TABLE, Desk, tap
 
 MS = 10**6
 TOLD = "afdxmon: network {} has given nothing for 10 s, and network {} is not read meanwhile: are both written by one program, one after the other?"
@@ -98,7 +98,7 @@ def both_pause(pipes):
 
 
 def at_terminal(name, pipes, feed, told, *more):
-    """A run at a terminal: this is told once, between 10 and 12.5 s after the start, and nothing else but the summary."""
+    """A run at a terminal, its name and its fault: this is told once, between 10 and 12.5 s after the start, and nothing else but the summary."""
     screen, begun = Screen(), time.monotonic()
     status, whole = screen.run([*pipes.arguments(), *more], feed, stdin=subprocess.DEVNULL)
     left, ledger = pipes.left()
@@ -107,7 +107,7 @@ def at_terminal(name, pipes, feed, told, *more):
     when = next((at - begun for at, text in screen.pieces if told and told.split(":")[1] in text), 10)
     if not fault and not 10 <= when <= 12.5:
         fault = f"it came after {when:.1f} s"
-    say(f"pauses: {name}", fault or left)
+    return name, fault or left
 
 
 def in_a_pipe(name, pipes, feed):
@@ -116,30 +116,26 @@ def in_a_pipe(name, pipes, feed):
     out, told = child.communicate(timeout=60)
     left, _ = pipes.left()
     fault = "" if (child.returncode, out, told.decode()) == (SUCCESS, b"", "") else f"{child.returncode}, {told!r}"
-    say(f"pauses: {name}", fault or left)
+    return name, fault or left
 
 
-def cases():
-    a_waits, b_waits = TOLD.format("B", "A"), TOLD.format("A", "B")
-    with tempfile.TemporaryDirectory() as directory:
+class Pauses(Case):
+    def pipes(self, name, a=MANY, b=FEW):
+        return Pipes(os.path.join(self.folder, name), a, b)
 
-        def pipes(name, a=MANY, b=FEW):
-            return Pipes(os.path.join(directory, name), a, b)
-
-        runs = []
-        for name, first, second, told in (("A and then B", "a", "b", a_waits), ("B and then A", "b", "a", b_waits)):
-            these = pipes(first) if first == "a" else pipes(first, FEW, MANY)
-            runs.append((at_terminal, name, these, in_turn(these, first, second), told))
-        these = pipes("headers")
-        runs.append((at_terminal, "both headers, and then A", these, headers_first(these), a_waits))
-        these = pipes("both", FEW, FEW)
-        runs.append((at_terminal, "both networks pause", these, both_pause(these), None))
-        these = pipes("quiet")
-        runs.append((at_terminal, "--quiet", these, headers_first(these), None, "--quiet"))
-        these = pipes("pipe")
-        runs.append((in_a_pipe, "standard error is a pipe", these, headers_first(these)))
-        threads = [threading.Thread(target=run[0], args=run[1:]) for run in runs]
-        for thread in threads:
-            thread.start()
-        for thread in threads:
-            thread.join()
+    def test_pauses(self):
+        """The runs take 12 s each, all of them at once."""
+        a_waits, b_waits = TOLD.format("B", "A"), TOLD.format("A", "B")
+        a_first, b_first = self.pipes("a"), self.pipes("b", FEW, MANY)
+        headers, both, quiet, pipe = self.pipes("headers"), self.pipes("both", FEW, FEW), self.pipes("quiet"), self.pipes("pipe")
+        runs = (
+            (at_terminal, "A and then B", a_first, in_turn(a_first, "a", "b"), a_waits),
+            (at_terminal, "B and then A", b_first, in_turn(b_first, "b", "a"), b_waits),
+            (at_terminal, "both headers, and then A", headers, headers_first(headers), a_waits),
+            (at_terminal, "both networks pause", both, both_pause(both), None),
+            (at_terminal, "--quiet", quiet, headers_first(quiet), None, "--quiet"),
+            (in_a_pipe, "standard error is a pipe", pipe, headers_first(pipe)),
+        )
+        with concurrent.futures.ThreadPoolExecutor(len(runs)) as pool:
+            for name, fault in pool.map(lambda run: run[0](*run[1:]), runs):
+                self.case(f"pauses: {name}", fault)

@@ -8,8 +8,8 @@ import random
 import struct
 from collections import namedtuple
 
-from flights import MS, SECOND, START, link as row_of, table_of
-from harness import EVERY, header, run
+from tests.flights import MS, SECOND, START, link as row_of, table_of
+from tests.harness import EVERY, header, run
 
 HEAD = b"\x03\0\0\0"
 BAGS = (1, 2, 4, 8, 16, 32, 64, 128)

@@ -3,11 +3,10 @@
 Expected values are how many packets the rule of docs/FORMATS.md lets through; the slow reader of tests/blocks.py reads the files too.
 """
 import subprocess
-import tempfile
 
-from blocks import DATA, SECOND, Bench, Blocks, Reader, listed, note_of
-from harness import EVERY, SUCCESS, difference, run, say
-from reference import HEADER, record_of
+from tests.blocks import DATA, SECOND, AtABench, Blocks, Reader, listed, note_of
+from tests.harness import EVERY, SUCCESS, difference, run
+from tests.reference import HEADER, record_of
 
 
 def named_sections(*sections):
@@ -46,24 +45,6 @@ LATER_SECTIONS = (
 )
 
 
-def later_sections(bench):
-    """With no choice an interface of a later section is known by its name, and by its number where a name is missing."""
-    for name, count, *sections in LATER_SECTIONS:
-        data = named_sections(*sections)
-        frames, ending, _ = Reader(None).read(data)
-        wanted = f"clean {count}" if count == len(sections) else f"bad {count} severalinterfaces"
-        say(f"pcapng: sections: {name}, read slowly", "" if (len(frames), ending) == (count, wanted) else ending)
-        expected = HEADER + b"".join(record_of(*one) for one in frames)
-        ran = run(["capture", "--code", EVERY, "-"], input=data, stdout=subprocess.PIPE)
-        say(f"pcapng: sections: {name}, of a pipe", difference(ran, SUCCESS, note_of(ending, 0), expected))
-        if count == len(sections):
-            bench.captured(f"sections: {name}", data)
-        else:
-            bench.refused(f"sections: {name}", data, f"afdxmon: interfaces RECORDING: {listed(data)}")
-    here = Blocks().section().interface("eth0", 9).interface("eth0", 9).packet(1, DATA[0]).packet(2, DATA[1], 1).bytes()
-    bench.refused("two interfaces of a name in one section", here, "afdxmon: interfaces RECORDING: 0 eth0, 1 eth0")
-
-
 # What a fault lists of all sections' interfaces, of which none was chosen, or none that is there: no number that chooses two
 # of them, where their names choose one.
 LISTS = (
@@ -78,19 +59,30 @@ LISTS = (
 )
 
 
-def lists(bench):
-    """A fault names the interfaces of all sections, where none is chosen and where the chosen one isn't there."""
-    for name, told, *sections in LISTS:
-        data = named_sections(*sections)
-        bench.refused(f"sections: the list of {name}", data, f"afdxmon: interfaces RECORDING: {told}")
-        bench.refused(f"sections: the list of {name}, one chosen", data, f"afdxmon: interfaces RECORDING: {told}", ":eth7")
-    usb = Blocks().section().interface("usb", 9, link_type=220).section().interface(None, 9).packet(1, DATA[0]).section().interface("eth0", 9).interface("eth1", 9)
-    told = "afdxmon: interfaces RECORDING: 0 eth0, 1 eth1"
-    bench.refused("sections: the list has interfaces of Ethernet alone", usb.packet(2, DATA[1], 1).bytes(), told)
+class Sections(AtABench):
+    def test_later_sections(self):
+        """With no choice an interface of a later section is known by its name, and by its number where a name is missing."""
+        for name, count, *sections in LATER_SECTIONS:
+            data = named_sections(*sections)
+            frames, ending, _ = Reader(None).read(data)
+            wanted = f"clean {count}" if count == len(sections) else f"bad {count} severalinterfaces"
+            self.case(f"pcapng: sections: {name}, read slowly", "" if (len(frames), ending) == (count, wanted) else ending)
+            expected = HEADER + b"".join(record_of(*one) for one in frames)
+            ran = run(["capture", "--code", EVERY, "-"], input=data, stdout=subprocess.PIPE)
+            self.case(f"pcapng: sections: {name}, of a pipe", difference(ran, SUCCESS, note_of(ending, 0), expected))
+            if count == len(sections):
+                self.captured(f"sections: {name}", data)
+            else:
+                self.refused(f"sections: {name}", data, f"afdxmon: interfaces RECORDING: {listed(data)}")
+        here = Blocks().section().interface("eth0", 9).interface("eth0", 9).packet(1, DATA[0]).packet(2, DATA[1], 1).bytes()
+        self.refused("two interfaces of a name in one section", here, "afdxmon: interfaces RECORDING: 0 eth0, 1 eth0")
 
-
-def cases():
-    with tempfile.TemporaryDirectory() as directory:
-        bench = Bench(directory)
-        later_sections(bench)
-        lists(bench)
+    def test_lists(self):
+        """A fault names the interfaces of all sections, where none is chosen and where the chosen one isn't there."""
+        for name, told, *sections in LISTS:
+            data = named_sections(*sections)
+            self.refused(f"sections: the list of {name}", data, f"afdxmon: interfaces RECORDING: {told}")
+            self.refused(f"sections: the list of {name}, one chosen", data, f"afdxmon: interfaces RECORDING: {told}", ":eth7")
+        usb = Blocks().section().interface("usb", 9, link_type=220).section().interface(None, 9).packet(1, DATA[0]).section().interface("eth0", 9).interface("eth1", 9)
+        told = "afdxmon: interfaces RECORDING: 0 eth0, 1 eth1"
+        self.refused("sections: the list has interfaces of Ethernet alone", usb.packet(2, DATA[1], 1).bytes(), told)

@@ -4,10 +4,10 @@ Each takes a world (tests/plants.py), changes the frames of its flight, and retu
 """
 import struct
 
-from faults import ids, inner, note_losses, scattered, shift, span_of, window
-from flights import MS, SECOND, START
-from plants import HEAD, OTHER, Frame, Unfit, number_of
-from truths import Plant
+from tests.faults import ids, inner, note_losses, scattered, shift, span_of, window
+from tests.flights import MS, SECOND, START
+from tests.plants import HEAD, OTHER, Frame, Unfit, number_of
+from tests.truths import Plant
 
 MICRO = 1000
 

@@ -1,6 +1,5 @@
 """Scripts of tests, each of which ends with 'N passed, M failed', run side by side."""
 import concurrent.futures
-import os
 import re
 import subprocess
 import sys
@@ -42,15 +41,15 @@ class Count:
         return [name for name, (_, failed) in self.scripts.items() if failed]
 
 
-def side_by_side(commands, jobs, skipped=None):
+def side_by_side(commands, jobs, skipped=None, only_first=False):
     """Runs commands by their names, so many at a time, and prints what each said as it ends. How many cases passed and failed. Each
     case that was skipped, and what it lacked, is added to the set `skipped`.
 
     A script that failed is run once more, by itself, after the others: what failed because the machine had too much to do passes then,
-    and its first failure stands above. What fails again is printed again at the end, where it is found. With AFDXMON_FIRST_FAILURE in
-    the environment none begins after one that failed.
+    and its first failure stands above. What fails again is printed again at the end, where it is found. With `only_first` none begins
+    after one that failed.
     """
-    count, stopped, only_first = Count(), [], os.environ.get("AFDXMON_FIRST_FAILURE")
+    count, stopped = Count(), []
     with concurrent.futures.ThreadPoolExecutor(jobs) as pool:
         running = {pool.submit(ran, command, stopped): name for name, command in commands.items()}
         for ended in concurrent.futures.as_completed(running):

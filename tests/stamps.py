@@ -3,10 +3,10 @@ import os
 import re
 import shutil
 import subprocess
-import tempfile
+import unittest
 
-from harness import PROGRAM, TOP, say, skip
-from texts import VERSION
+from tests.harness import PROGRAM, TOP, Case
+from tests.texts import VERSION
 
 UNKNOWN = "unknown-tree"
 PLACE = re.compile(rb"\(commit (unknown-tree|[0-9a-f]{12})\)")
@@ -27,18 +27,6 @@ def commits_of_the_program():
 def version_of_the_program():
     """What `--version` prints."""
     return VERSION.replace(UNKNOWN, " ".join(commits_of_the_program()))
-
-
-def of_the_program():
-    """The program names a commit in one place, and that has the sources of the crates that are here."""
-    commits = commits_of_the_program()
-    say("the program has one commit", "" if len(commits) == 1 else f"it has {commits}")
-    commit = (commits or [UNKNOWN])[0]
-    if commit == UNKNOWN or not shutil.which("git") or git(TOP, "rev-parse", "--git-dir").returncode:
-        skip("the commit has the sources that are here", f"it says {commit}, or there is no git here")
-        return
-    differs = git(TOP, "diff", "--stat", commit, "--", "crates", "crates.txt", "HANDLES")
-    say("the commit has the sources that are here", differs.stdout + differs.stderr)
 
 
 class Tree:
@@ -75,42 +63,47 @@ class Tree:
                 made = b"it can't be run"
         return ran.returncode, made, ran.stderr.decode()
 
-    def has(self, name, commit):
-        ran, expected = self.stamp(), self.LINKED.replace(b"(commit unknown-tree)", b"(commit %s)" % commit.encode())
-        say(f"stamp: {name}", "" if ran == (0, expected, "") else f"it leaves {ran}")
-
     def commit(self):
         git(self.directory, "add", "-A")
         git(self.directory, "commit", "-q", "-m", "one")
         return git(self.directory, "rev-parse", "HEAD").stdout[:12]
 
 
-def of_a_tree(tree):
-    tree.has("without git", UNKNOWN)
-    git(tree.directory, "init", "-q")
-    tree.has("without a commit", UNKNOWN)
-    first = tree.commit()
-    tree.has("a commit", first)
-    tree.write("README.md", b"more\n")
-    tree.has("a document that isn't committed", first)
-    tree.write("crates/one/src/lib.rt", b"//! Another.\n")
-    tree.has("a source that differs", UNKNOWN)
-    second = tree.commit()
-    tree.has("the next commit", second)
-    say("stamp: two commits differ", "" if first != second else f"both are {first}")
-    tree.write("crates/one/src/more.rt", b"//! More.\n")
-    tree.has("a source that is new", UNKNOWN)
-    os.remove(os.path.join(tree.directory, "crates/one/src/more.rt"))
-    tree.has("the sources as they were", second)
-    for at in (tree.AT - 1, tree.AT + 1, len(tree.LINKED), 10**9):
-        ran, told = tree.stamp(at), f"stamp: the program hasn't 'unknown-tree' at byte {at}\n"
-        say(f"stamp: at byte {at}", "" if ran == (1, None, told) else f"it leaves {ran}")
+class Stamps(Case):
+    def test_of_the_program(self):
+        """The program names a commit in one place, and that has the sources of the crates that are here."""
+        commits = commits_of_the_program()
+        self.case("the program has one commit", "" if len(commits) == 1 else f"it has {commits}")
+        commit = (commits or [UNKNOWN])[0]
+        if commit == UNKNOWN or not shutil.which("git") or git(TOP, "rev-parse", "--git-dir").returncode:
+            self.skip("the commit has the sources that are here", f"it says {commit}, or there is no git here")
+            return
+        differs = git(TOP, "diff", "--stat", commit, "--", "crates", "crates.txt", "HANDLES")
+        self.case("the commit has the sources that are here", differs.stdout + differs.stderr)
 
+    def has(self, name, tree, commit):
+        ran, expected = tree.stamp(), tree.LINKED.replace(b"(commit unknown-tree)", b"(commit %s)" % commit.encode())
+        self.case(f"stamp: {name}", "" if ran == (0, expected, "") else f"it leaves {ran}")
 
-def cases():
-    of_the_program()
-    if not shutil.which("git"):
-        skip("stamp", "no git here")
-        return
-    with tempfile.TemporaryDirectory() as directory:
-        of_a_tree(Tree(os.path.realpath(directory)))
+    @unittest.skipUnless(shutil.which("git"), "no git here")
+    def test_of_a_tree(self):
+        tree = Tree(self.folder)
+        self.has("without git", tree, UNKNOWN)
+        git(tree.directory, "init", "-q")
+        self.has("without a commit", tree, UNKNOWN)
+        first = tree.commit()
+        self.has("a commit", tree, first)
+        tree.write("README.md", b"more\n")
+        self.has("a document that isn't committed", tree, first)
+        tree.write("crates/one/src/lib.rt", b"//! Another.\n")
+        self.has("a source that differs", tree, UNKNOWN)
+        second = tree.commit()
+        self.has("the next commit", tree, second)
+        self.case("stamp: two commits differ", "" if first != second else f"both are {first}")
+        tree.write("crates/one/src/more.rt", b"//! More.\n")
+        self.has("a source that is new", tree, UNKNOWN)
+        os.remove(os.path.join(tree.directory, "crates/one/src/more.rt"))
+        self.has("the sources as they were", tree, second)
+        for at in (tree.AT - 1, tree.AT + 1, len(tree.LINKED), 10**9):
+            ran, told = tree.stamp(at), f"stamp: the program hasn't 'unknown-tree' at byte {at}\n"
+            self.case(f"stamp: at byte {at}", "" if ran == (1, None, told) else f"it leaves {ran}")

@@ -4,13 +4,13 @@ import resource
 import struct
 import subprocess
 
-from analyser import watch
-from blocks import CUSTOM, MOST_INTERFACES, Blocks
-from harness import EVERY, FAULT, PROGRAM, SUCCESS, difference, frame, header, readable_program, record, run, run_at_terminal, say
-from stamps import version_of_the_program
-from texts import ABOUT, ADVICE, ALLOWED, CHECK_SEQUENCES, COUNTS, EXPRESSION, FULL, GZIP, LINK_KEYS, NO_DOCUMENT, NOT_NUMERIC
-from texts import PROGRAM_HELP, SOURCE, TOP_KEYS, XZ, ZSTD, advice_on, advice_on_ending, help_of
-from watching import LINK_5, TABLE
+from tests.analyser import watch
+from tests.blocks import CUSTOM, MOST_INTERFACES, Blocks
+from tests.harness import EVERY, FAULT, PROGRAM, SUCCESS, difference, frame, header, readable_program, record, run, run_at_terminal
+from tests.stamps import version_of_the_program
+from tests.texts import ABOUT, ADVICE, ALLOWED, CHECK_SEQUENCES, COUNTS, EXPRESSION, FULL, GZIP, LINK_KEYS, NO_DOCUMENT, NOT_NUMERIC
+from tests.texts import PROGRAM_HELP, SOURCE, TOP_KEYS, XZ, ZSTD, advice_on, advice_on_ending, help_of
+from tests.watching import LINK_5, TABLE, AtADesk
 
 MIB = 1 << 20
 FAR = b"\tjeq #0, l\n" + b"ret #0\n" * 256 + b"l: ret #0"
@@ -182,189 +182,7 @@ HEADS = (
 )
 
 
-def twice(name, line, lead, arguments, advice=None, **how):
-    """A fault at a terminal and elsewhere: the same status and fault line, and what leads to the advice, and that, at the
-    terminal and with -v alone. Whole lines lead to it, or the file's name before it."""
-    expected = f"afdxmon: {line}\n"
-    ran = run(arguments, stdout=subprocess.PIPE, **how)
-    fault = difference(ran, FAULT, lambda told: told == expected, b"")
-    ran = run_at_terminal(arguments, **how)
-    whole = expected + lead + (advice or advice_on(line)) + "\n"
-    if not fault and (ran.returncode != FAULT or ran.stderr != whole):
-        fault = f"at a terminal: status {ran.returncode}, {ran.stderr!r}, not {whole!r}"
-    ran = run([arguments[0], "-v", *arguments[1:]], stdout=subprocess.PIPE, **how)
-    if not fault and (ran.returncode != FAULT or ran.stderr.decode() != whole):
-        fault = f"with -v: status {ran.returncode}, {ran.stderr!r}, not {whole!r}"
-    say(f"{name}: {line}", fault)
-    return line
-
-
-def faults(desk):
-    """Each fault that can be had has its own advice."""
-    told = []
-    for source, line, shown in SOURCES:
-        told.append(twice("a source", line, shown and "standard input:" + shown, ["asm"], input=source))
-    no_texts(desk)
-    for code, line, shown in CODES + BLANKS:
-        lead = f"--code:{shown}" if shown else "--code: "
-        told.append(twice(f"the filter {code!r}", line, lead, ["capture", "--code", code], input=header()))
-    for code, advice in WRITTEN:
-        lead = f"--code:1:1\n{code.splitlines()[0]}\n^\n"
-        twice(f"the filter {code!r}", "numeric 1 Character at 0", lead, ["capture", "--code", code], advice=advice, input=header())
-    told += runs(desk)
-    tables(desk)
-    desk.lay(config=TABLE, filter=EVERY, a=header(), b=header())
-    told.append(twice("a run", "watch 1 Workers", "", [*desk.arguments(), "--workers", "9"], stdin=subprocess.DEVNULL))
-    told += sessions(desk)
-    told += captures(desk)
-    told += reports(desk)
-    told.append(twice("a draft", "links 1 Constant", "", ["links", "--a", desk.paths["a"], "--constant", "5"], stdin=subprocess.DEVNULL))
-    told.append("check 1 Unsound")  # check.py has it, beside the answer
-    told += ["file --manifest", "watch 4 Write manifest"]  # manifest.py has these
-    told += ["order --a", "repeated --a"]  # several.py has these
-    told.append("interfaces RECORDING")  # blocks.py has it
-    told += [f"report 5 Manifest {what}" for what in ("at 1 form", "version", "table", "ledger")]
-    told += little_memory(desk)
-    for key in ADVICE:
-        if not any((line + " ").startswith(key) for line in told):
-            say("each advice", f"no case has the fault {key}")
-
-
-def no_texts(desk):
-    """Standard input that is no text: the reason that is true, of `asm` and of the commands of `debug`."""
-    desk.lay(filter=EVERY, a=header())
-    debug = ["debug", "--filter", desk.paths["filter"], "--tap", desk.paths["a"]]
-    for arguments in (["asm"], debug):
-        for given, reason in (
-            (b"\xff", "not UTF-8 at byte 0"),
-            ("/* \u00e9 */ ret #0 \u00e9".encode()[:-1], "not UTF-8 at byte 16"),
-            (b" " * 16777217, "it has more than 16777216 bytes"),
-        ):
-            twice("no text", "file -", "standard input: ", arguments, advice=reason, input=given)
-        folder = os.open(desk.directory, os.O_RDONLY)
-        twice("a directory as standard input", "file -", "standard input: ", arguments, advice=DIRECTORY, stdin=folder)
-        os.close(folder)
-
-
-def runs(desk):
-    """What is wrong with a run over two recordings, with the path as it was given."""
-    places = {"missing": os.path.join(desk.directory, "missing"), "directory": desk.directory, "/dev/full": "/dev/full"}
-    places["through"] = os.path.join(desk.paths["a"], "in")
-    told = []
-    for contents, elsewhere, line, lead in RUNS:
-        desk.lay(**{"config": TABLE, "filter": EVERY, "a": header(), "b": header(), **contents})
-        paths = {option: places[place] for option, place in elsewhere.items()}
-        lead = lead.format(**{**desk.paths, **paths})
-        advice = FULL if "4 Write" in line else None
-        told.append(twice("a run", line, lead, desk.arguments(**paths), advice=advice, stdin=subprocess.DEVNULL))
-    desk.lay(config=TABLE, filter=EVERY, a=header(), b=header())
-    twice("a path that is relative", "file --a", "./x: " + MISSING + "\n", desk.arguments(a="./x"), cwd=desk.directory, stdin=subprocess.DEVNULL)
-    for given, fault, advice in HEADS:
-        desk.lay(config=TABLE, filter=EVERY, a=header(), b=given)
-        lead = desk.paths["b"] + ": "
-        twice("a file that is no recording", f"watch 2 Header B {fault}", lead, desk.arguments(), advice=advice.format(desk.paths["b"]), stdin=subprocess.DEVNULL)
-    # Standard input isn't read again, so nothing more is known of it.
-    given, lead = b"no recording: 0123456789", "standard input: "
-    twice("a stream that is no recording", "watch 2 Header A 2 Magic", lead, ["capture", "--code", EVERY], input=given)
-    for given, fault in SECTIONS:
-        desk.lay(config=TABLE, filter=EVERY, a=given, b=header())
-        told.append(twice("a damaged section header", f"watch 2 Header A {fault}", desk.paths["a"] + ": ", desk.arguments(), stdin=subprocess.DEVNULL))
-    refused_to(desk)
-    piped(desk)
-    return told
-
-
-def tables(desk):
-    """What is wrong with a table: the key in its line, what stands there and what is allowed."""
-    for table, line, shown, advice in TABLES:
-        desk.lay(config=table, filter=EVERY, a=header(), b=header())
-        twice("a table", f"config {line}", desk.paths["config"] + shown, desk.arguments(), advice=advice, stdin=subprocess.DEVNULL)
-
-
-def refused_to(desk):
-    """Files that another user may not read or write."""
-    if os.getuid() != 0:
-        return
-    desk.lay(config=TABLE, filter=EVERY, a=header(), b=header())
-    how = {"program": readable_program(desk.directory), "stdin": subprocess.DEVNULL, "user": 65534}
-    for option in ("config", "a", "capture"):
-        os.chmod(desk.paths[option], 0o600)
-        lead = desk.paths[option] + ": Permission denied (os error 13)\n"
-        twice("a file of another user", f"file --{option}", lead, desk.arguments(), **how)
-        os.chmod(desk.paths[option], 0o666)
-    os.chmod(desk.directory, 0o700)
-
-
-def piped(desk):
-    """A pipe isn't opened a second time: what is wrong with it is known from its one reading."""
-    desk.lay(config=TABLE, a=header(), b=header())
-    fifo = os.path.join(desk.directory, "fifo")
-    os.mkfifo(fifo)
-    for runner in (run, run_at_terminal):
-        writer = subprocess.Popen(["bash", "-c", f"printf '\\377' > '{fifo}'"])
-        ran = runner(desk.arguments(filter=fifo), stdin=subprocess.DEVNULL, **({} if runner is run_at_terminal else {"stdout": subprocess.PIPE}))
-        writer.wait()
-        said = ran.stderr if isinstance(ran.stderr, str) else ran.stderr.decode()
-        whole = "afdxmon: file --filter\n" + (f"{fifo}: not UTF-8 at byte 0\n{ADVICE['file --filter']}\n" if runner is run_at_terminal else "")
-        say("a pipe as a filter", "" if (ran.returncode, said) == (FAULT, whole) else f"status {ran.returncode}, {said!r}, not {whole!r}")
-    os.remove(fifo)
-
-
-def sessions(desk):
-    """What is wrong with a session: its recording is --tap, and its fault lines call that A."""
-    desk.lay(filter=EVERY, a=b"", b=header()[:4] + bytes(20), capture="1,x")
-    missing = os.path.join(desk.directory, "missing")
-    told = []
-    for filters, tap, line, lead in (
-        ("filter", missing, "file --tap", f"{missing}: {MISSING}\n"),
-        ("filter", desk.directory, "watch 3 Read A", f"{desk.directory}: {DIRECTORY}\n"),
-        ("filter", desk.paths["a"], "watch 2 Header A 1 Short", desk.paths["a"] + ": "),
-        ("filter", desk.paths["b"], "watch 2 Header A 3 Version", desk.paths["b"] + ": "),
-        ("capture", desk.paths["a"], "numeric 1 Character at 2", desk.paths["capture"] + ":1:3\n1,x\n  ^\n"),
-    ):
-        arguments = ["debug", "--filter", desk.paths[filters], "--tap", tap]
-        told.append(twice("a session", line, lead, arguments, stdin=subprocess.DEVNULL))
-    return told
-
-
-def captures(desk):
-    """What is wrong with a capture that names its files."""
-    desk.lay(filter="1,x", a=header(), b="ldh [12]\nret x\n")
-    missing = os.path.join(desk.directory, "missing")
-    filters, tap, source = (desk.paths[name] for name in ("filter", "a", "b"))
-    told = []
-    for line, lead, arguments in (
-        ("file RECORDING", f"{missing}: {MISSING}\n", ["--code", EVERY, missing]),
-        ("file --source", f"{missing}: {MISSING}\n", ["--source", missing, tap]),
-        ("file --output", f"{desk.directory}: {DIRECTORY}\n", ["--code", EVERY, tap, "-o", desk.directory]),
-        ("numeric 1 Character at 2", f"{filters}:1:3\n1,x\n  ^\n", ["--filter", filters, tap]),
-        ("asm 1 Text 3 Form at 13", f"{source}:2:5\nret x\n    ^\n", ["--source", source, tap]),
-    ):
-        told.append(twice("a capture", line, lead, ["capture", *arguments], stdin=subprocess.DEVNULL))
-    return told
-
-
 LINE = "1000000000000000000 A 0 5 1 regular within first {} - 00\n"
-
-
-def reports(desk):
-    """What is wrong with a ledger that a report is made of."""
-    head, told = "afdx-ledger 2\n", []
-    desk.lay(config=TABLE)
-    ledger = os.path.join(desk.directory, "given.ledger")
-    for text, line in (
-        ("x\n", "report 1 Ledger at 1 head"),
-        (head + "x\n", "report 1 Ledger at 2 timestamp"),
-        (head + LINE.format("copy"), "report 2 Contradiction at 2 copy"),
-        (head + LINE.format("deliver") + "link 5 frames 2\n", "report 2 Contradiction at 3 counts"),
-    ):
-        with open(ledger, "w", encoding="ascii") as out:
-            out.write(text)
-        told.append(twice("a report", line, f"{ledger}: ", ["report", "--config", desk.paths["config"], "--ledger", ledger], stdin=subprocess.DEVNULL))
-    told += other_tables(desk, head, ledger)
-    arguments = ["report", "--config", desk.paths["config"], "--ledger", desk.directory]
-    told.append(twice("a report", "report 3 Read Ledger", f"{desk.directory}: ", arguments, advice=DIRECTORY, stdin=subprocess.DEVNULL))
-    return told
 
 
 # A copy 1500 us after its delivery, counts of link 5, and the same of another link and of a filter.
@@ -380,66 +198,6 @@ OF_OTHER_TABLES = (
     (LINE.format("deliver") + COUNTED.format("4 flaps"), "3 counts", "link 4 isn't in the table {}"),
     (LINE.format("deliver") + "filter 0 accepted 0\n", "3 counts", "link 5 brake of the table {} has no counts there"),
 )
-
-
-def other_tables(desk, head, ledger):
-    """A ledger of another table, its own and that of an earlier flight: the link, and how both differ."""
-    told, table = [], desk.paths["config"]
-    own = os.path.join(desk.directory, "own.ledger")
-    with open(own, "w", encoding="ascii") as out:
-        out.write(head + LINE.format("deliver"))
-    for text, place, words in OF_OTHER_TABLES:
-        with open(ledger, "w", encoding="ascii") as out:
-            out.write(head + text)
-        line, _ = place.split()
-        advice = f"line {line}: " + words.format(table) + ": is it the table of the run?"
-        arguments = ["report", "--config", table, "--ledger", ledger]
-        told.append(twice("a report", f"report 2 Contradiction at {place}", f"{ledger}: ", arguments, advice=advice, stdin=subprocess.DEVNULL))
-        arguments = ["report", "--config", table, "--ledger", own, "--baseline", ledger]
-        twice("a report of two flights", f"report 6 Baseline 2 Contradiction at {place}", f"{ledger}: ", arguments, advice=advice, stdin=subprocess.DEVNULL)
-        arguments = ["report", "--config", table, "--ledger", "-"]
-        twice("a report of a pipe", f"report 2 Contradiction at {place}", "standard input: ", arguments, advice=advice, input=(head + text).encode())
-        advice = f"line {line}: " + words.format("standard input") + ": is it the table of the run?"
-        arguments = ["report", "--config", "-", "--ledger", ledger]
-        twice("a report by a piped table", f"report 2 Contradiction at {place}", f"{ledger}: ", arguments, advice=advice, input=TABLE.encode())
-    return told
-
-
-def little_memory(desk):
-    """A process of 16 MiB: a text of 16 MB doesn't fit, nor does the stack of a thread, which has 8 MiB."""
-
-    def limit():
-        resource.setrlimit(resource.RLIMIT_STACK, (8 * MIB, 8 * MIB))
-        resource.setrlimit(resource.RLIMIT_AS, (16 * MIB, 16 * MIB))
-
-    blanks = b" " * (16 * 10**6)
-    desk.lay(config=TABLE, filter=EVERY, a=header(), b=header())
-    debug = ["debug", "--filter", desk.paths["filter"], "--tap", desk.paths["a"]]
-    ran = run(desk.arguments(), stdin=subprocess.DEVNULL, stdout=subprocess.PIPE, preexec_fn=limit)
-    made = watch(TABLE, EVERY, header(), header())
-    say("little memory: no room for a thread", desk.agrees(ran, made.capture, made.lines + made.summary))
-    told = [twice("little memory", "asm 8 Memory", "", ["asm"], input=blanks + b"ret #0", preexec_fn=limit)]
-    told.append(twice("little memory", "debug 4 Memory", "", debug, input=blanks, preexec_fn=limit))
-    desk.lay(config=TABLE, filter=blanks + EVERY.encode(), a=header(), b=header())
-    told.append(twice("little memory", "watch 7 Memory", "", desk.arguments(), stdin=subprocess.DEVNULL, preexec_fn=limit))
-    return told
-
-
-def helps():
-    """Help and version, whole, on standard output, at a terminal and elsewhere, by each way to ask for them."""
-    version = version_of_the_program()
-    asked = [(["--help"], PROGRAM_HELP), (["-h"], PROGRAM_HELP), (["help"], PROGRAM_HELP), (["--version"], version), (["-V"], version)]
-    for command in ABOUT:
-        asked += [([command, "--help"], help_of(command)), ([command, "-h"], help_of(command)), (["help", command], help_of(command))]
-    for arguments, text in asked:
-        # Where the usage is clap's own it names the program by its file.
-        for usage in ("Usage: afdxmon <COMMAND>", "Usage: afdxmon asm [OPTIONS]"):
-            text = text.replace(usage, usage.replace("afdxmon", os.path.basename(PROGRAM)))
-        fault = difference(run(arguments, stdin=subprocess.DEVNULL, stdout=subprocess.PIPE), SUCCESS, "", text.encode())
-        ran = run_at_terminal(arguments, stdin=subprocess.DEVNULL)
-        if not fault and (ran.returncode != SUCCESS or ran.stderr or ran.stdout != text.encode()):
-            fault = f"at a terminal: status {ran.returncode}, {ran.stderr!r}, {ran.stdout!r}"
-        say(f"the text of {' '.join(arguments)}", fault)
 
 
 # Recordings of two frames that end early, in each way, and one that does before its first frame.
@@ -477,26 +235,250 @@ EARLY = (
 )
 
 
-def notes(desk):
-    """The note on a recording that ends early, and at a terminal what to do with it. Elsewhere the note stands alone."""
-    for given, ending in EARLY:
-        note = f"afdxmon: note: recording ends {ending}\n"
-        desk.lay(filter=EVERY, a=given)
-        debug = ["debug", "--filter", desk.paths["filter"], "--tap", desk.paths["a"]]
-        for arguments, how, name in (
-            (["capture", "--code", EVERY], {"input": given}, "standard input"),
-            (debug, {"stdin": subprocess.DEVNULL}, desk.paths["a"]),
+class Telling(AtADesk):
+    def twice(self, name, line, lead, arguments, advice=None, **how):
+        """A fault at a terminal and elsewhere: the same status and fault line, and what leads to the advice, and that, at the
+        terminal and with -v alone. Whole lines lead to it, or the file's name before it."""
+        expected = f"afdxmon: {line}\n"
+        ran = run(arguments, stdout=subprocess.PIPE, **how)
+        fault = difference(ran, FAULT, lambda told: told == expected, b"")
+        ran = run_at_terminal(arguments, **how)
+        whole = expected + lead + (advice or advice_on(line)) + "\n"
+        if not fault and (ran.returncode != FAULT or ran.stderr != whole):
+            fault = f"at a terminal: status {ran.returncode}, {ran.stderr!r}, not {whole!r}"
+        ran = run([arguments[0], "-v", *arguments[1:]], stdout=subprocess.PIPE, **how)
+        if not fault and (ran.returncode != FAULT or ran.stderr.decode() != whole):
+            fault = f"with -v: status {ran.returncode}, {ran.stderr!r}, not {whole!r}"
+        self.case(f"{name}: {line}", fault)
+        return line
+
+    def test_faults(self):
+        """Each fault that can be had has its own advice."""
+        told = []
+        for source, line, shown in SOURCES:
+            told.append(self.twice("a source", line, shown and "standard input:" + shown, ["asm"], input=source))
+        self.no_texts()
+        for code, line, shown in CODES + BLANKS:
+            lead = f"--code:{shown}" if shown else "--code: "
+            told.append(self.twice(f"the filter {code!r}", line, lead, ["capture", "--code", code], input=header()))
+        for code, advice in WRITTEN:
+            lead = f"--code:1:1\n{code.splitlines()[0]}\n^\n"
+            self.twice(f"the filter {code!r}", "numeric 1 Character at 0", lead, ["capture", "--code", code], advice=advice, input=header())
+        told += self.runs()
+        self.tables()
+        self.desk.lay(config=TABLE, filter=EVERY, a=header(), b=header())
+        told.append(self.twice("a run", "watch 1 Workers", "", [*self.desk.arguments(), "--workers", "9"], stdin=subprocess.DEVNULL))
+        told += self.sessions()
+        told += self.captures()
+        told += self.reports()
+        told.append(self.twice("a draft", "links 1 Constant", "", ["links", "--a", self.desk.paths["a"], "--constant", "5"], stdin=subprocess.DEVNULL))
+        told.append("check 1 Unsound")  # check.py has it, beside the answer
+        told += ["file --manifest", "watch 4 Write manifest"]  # manifest.py has these
+        told += ["order --a", "repeated --a"]  # several.py has these
+        told.append("interfaces RECORDING")  # blocks.py has it
+        told += [f"report 5 Manifest {what}" for what in ("at 1 form", "version", "table", "ledger")]
+        told += self.little_memory()
+        for key in ADVICE:
+            if not any((line + " ").startswith(key) for line in told):
+                self.case("each advice", f"no case has the fault {key}")
+
+    def no_texts(self):
+        """Standard input that is no text: the reason that is true, of `asm` and of the commands of `debug`."""
+        self.desk.lay(filter=EVERY, a=header())
+        debug = ["debug", "--filter", self.desk.paths["filter"], "--tap", self.desk.paths["a"]]
+        for arguments in (["asm"], debug):
+            for given, reason in (
+                (b"\xff", "not UTF-8 at byte 0"),
+                ("/* \u00e9 */ ret #0 \u00e9".encode()[:-1], "not UTF-8 at byte 16"),
+                (b" " * 16777217, "it has more than 16777216 bytes"),
+            ):
+                self.twice("no text", "file -", "standard input: ", arguments, advice=reason, input=given)
+            folder = os.open(self.desk.directory, os.O_RDONLY)
+            self.twice("a directory as standard input", "file -", "standard input: ", arguments, advice=DIRECTORY, stdin=folder)
+            os.close(folder)
+
+    def runs(self):
+        """What is wrong with a run over two recordings, with the path as it was given."""
+        places = {"missing": os.path.join(self.desk.directory, "missing"), "directory": self.desk.directory, "/dev/full": "/dev/full"}
+        places["through"] = os.path.join(self.desk.paths["a"], "in")
+        told = []
+        for contents, elsewhere, line, lead in RUNS:
+            self.desk.lay(**{"config": TABLE, "filter": EVERY, "a": header(), "b": header(), **contents})
+            paths = {option: places[place] for option, place in elsewhere.items()}
+            lead = lead.format(**{**self.desk.paths, **paths})
+            advice = FULL if "4 Write" in line else None
+            told.append(self.twice("a run", line, lead, self.desk.arguments(**paths), advice=advice, stdin=subprocess.DEVNULL))
+        self.desk.lay(config=TABLE, filter=EVERY, a=header(), b=header())
+        self.twice("a path that is relative", "file --a", "./x: " + MISSING + "\n", self.desk.arguments(a="./x"), cwd=self.desk.directory, stdin=subprocess.DEVNULL)
+        for given, fault, advice in HEADS:
+            self.desk.lay(config=TABLE, filter=EVERY, a=header(), b=given)
+            lead = self.desk.paths["b"] + ": "
+            self.twice("a file that is no recording", f"watch 2 Header B {fault}", lead, self.desk.arguments(), advice=advice.format(self.desk.paths["b"]), stdin=subprocess.DEVNULL)
+        # Standard input isn't read again, so nothing more is known of it.
+        given, lead = b"no recording: 0123456789", "standard input: "
+        self.twice("a stream that is no recording", "watch 2 Header A 2 Magic", lead, ["capture", "--code", EVERY], input=given)
+        for given, fault in SECTIONS:
+            self.desk.lay(config=TABLE, filter=EVERY, a=given, b=header())
+            told.append(self.twice("a damaged section header", f"watch 2 Header A {fault}", self.desk.paths["a"] + ": ", self.desk.arguments(), stdin=subprocess.DEVNULL))
+        self.refused_to()
+        self.piped()
+        return told
+
+    def tables(self):
+        """What is wrong with a table: the key in its line, what stands there and what is allowed."""
+        for table, line, shown, advice in TABLES:
+            self.desk.lay(config=table, filter=EVERY, a=header(), b=header())
+            self.twice("a table", f"config {line}", self.desk.paths["config"] + shown, self.desk.arguments(), advice=advice, stdin=subprocess.DEVNULL)
+
+    def refused_to(self):
+        """Files that another user may not read or write."""
+        if os.getuid() != 0:
+            return
+        self.desk.lay(config=TABLE, filter=EVERY, a=header(), b=header())
+        how = {"program": readable_program(self.desk.directory), "stdin": subprocess.DEVNULL, "user": 65534}
+        for option in ("config", "a", "capture"):
+            os.chmod(self.desk.paths[option], 0o600)
+            lead = self.desk.paths[option] + ": Permission denied (os error 13)\n"
+            self.twice("a file of another user", f"file --{option}", lead, self.desk.arguments(), **how)
+            os.chmod(self.desk.paths[option], 0o666)
+        os.chmod(self.desk.directory, 0o700)
+
+    def piped(self):
+        """A pipe isn't opened a second time: what is wrong with it is known from its one reading."""
+        self.desk.lay(config=TABLE, a=header(), b=header())
+        fifo = os.path.join(self.desk.directory, "fifo")
+        os.mkfifo(fifo)
+        for runner in (run, run_at_terminal):
+            writer = subprocess.Popen(["bash", "-c", f"printf '\\377' > '{fifo}'"])
+            ran = runner(self.desk.arguments(filter=fifo), stdin=subprocess.DEVNULL, **({} if runner is run_at_terminal else {"stdout": subprocess.PIPE}))
+            writer.wait()
+            said = ran.stderr if isinstance(ran.stderr, str) else ran.stderr.decode()
+            whole = "afdxmon: file --filter\n" + (f"{fifo}: not UTF-8 at byte 0\n{ADVICE['file --filter']}\n" if runner is run_at_terminal else "")
+            self.case("a pipe as a filter", "" if (ran.returncode, said) == (FAULT, whole) else f"status {ran.returncode}, {said!r}, not {whole!r}")
+        os.remove(fifo)
+
+    def sessions(self):
+        """What is wrong with a session: its recording is --tap, and its fault lines call that A."""
+        self.desk.lay(filter=EVERY, a=b"", b=header()[:4] + bytes(20), capture="1,x")
+        missing = os.path.join(self.desk.directory, "missing")
+        told = []
+        for filters, tap, line, lead in (
+            ("filter", missing, "file --tap", f"{missing}: {MISSING}\n"),
+            ("filter", self.desk.directory, "watch 3 Read A", f"{self.desk.directory}: {DIRECTORY}\n"),
+            ("filter", self.desk.paths["a"], "watch 2 Header A 1 Short", self.desk.paths["a"] + ": "),
+            ("filter", self.desk.paths["b"], "watch 2 Header A 3 Version", self.desk.paths["b"] + ": "),
+            ("capture", self.desk.paths["a"], "numeric 1 Character at 2", self.desk.paths["capture"] + ":1:3\n1,x\n  ^\n"),
         ):
-            ran = run(arguments, stdout=subprocess.PIPE, **how)
-            fault = difference(ran, SUCCESS, note[:-1])
-            ran = run_at_terminal(arguments, **how)
-            whole = f"{note}{name}: {advice_on_ending(note)}\n"
-            if not fault and (ran.returncode, ran.stderr) != (SUCCESS, whole):
-                fault = f"at a terminal: status {ran.returncode}, {ran.stderr!r}, not {whole!r}"
-            say(f"a note of {arguments[0]}: {ending}", fault)
+            arguments = ["debug", "--filter", self.desk.paths[filters], "--tap", tap]
+            told.append(self.twice("a session", line, lead, arguments, stdin=subprocess.DEVNULL))
+        return told
 
+    def captures(self):
+        """What is wrong with a capture that names its files."""
+        self.desk.lay(filter="1,x", a=header(), b="ldh [12]\nret x\n")
+        missing = os.path.join(self.desk.directory, "missing")
+        filters, tap, source = (self.desk.paths[name] for name in ("filter", "a", "b"))
+        told = []
+        for line, lead, arguments in (
+            ("file RECORDING", f"{missing}: {MISSING}\n", ["--code", EVERY, missing]),
+            ("file --source", f"{missing}: {MISSING}\n", ["--source", missing, tap]),
+            ("file --output", f"{self.desk.directory}: {DIRECTORY}\n", ["--code", EVERY, tap, "-o", self.desk.directory]),
+            ("numeric 1 Character at 2", f"{filters}:1:3\n1,x\n  ^\n", ["--filter", filters, tap]),
+            ("asm 1 Text 3 Form at 13", f"{source}:2:5\nret x\n    ^\n", ["--source", source, tap]),
+        ):
+            told.append(self.twice("a capture", line, lead, ["capture", *arguments], stdin=subprocess.DEVNULL))
+        return told
 
-def cases(desk):
-    faults(desk)
-    helps()
-    notes(desk)
+    def reports(self):
+        """What is wrong with a ledger that a report is made of."""
+        head, told = "afdx-ledger 2\n", []
+        self.desk.lay(config=TABLE)
+        ledger = os.path.join(self.desk.directory, "given.ledger")
+        for text, line in (
+            ("x\n", "report 1 Ledger at 1 head"),
+            (head + "x\n", "report 1 Ledger at 2 timestamp"),
+            (head + LINE.format("copy"), "report 2 Contradiction at 2 copy"),
+            (head + LINE.format("deliver") + "link 5 frames 2\n", "report 2 Contradiction at 3 counts"),
+        ):
+            with open(ledger, "w", encoding="ascii") as out:
+                out.write(text)
+            told.append(self.twice("a report", line, f"{ledger}: ", ["report", "--config", self.desk.paths["config"], "--ledger", ledger], stdin=subprocess.DEVNULL))
+        told += self.other_tables(head, ledger)
+        arguments = ["report", "--config", self.desk.paths["config"], "--ledger", self.desk.directory]
+        told.append(self.twice("a report", "report 3 Read Ledger", f"{self.desk.directory}: ", arguments, advice=DIRECTORY, stdin=subprocess.DEVNULL))
+        return told
+
+    def other_tables(self, head, ledger):
+        """A ledger of another table, its own and that of an earlier flight: the link, and how both differ."""
+        told, table = [], self.desk.paths["config"]
+        own = os.path.join(self.desk.directory, "own.ledger")
+        with open(own, "w", encoding="ascii") as out:
+            out.write(head + LINE.format("deliver"))
+        for text, place, words in OF_OTHER_TABLES:
+            with open(ledger, "w", encoding="ascii") as out:
+                out.write(head + text)
+            line, _ = place.split()
+            advice = f"line {line}: " + words.format(table) + ": is it the table of the run?"
+            arguments = ["report", "--config", table, "--ledger", ledger]
+            told.append(self.twice("a report", f"report 2 Contradiction at {place}", f"{ledger}: ", arguments, advice=advice, stdin=subprocess.DEVNULL))
+            arguments = ["report", "--config", table, "--ledger", own, "--baseline", ledger]
+            self.twice("a report of two flights", f"report 6 Baseline 2 Contradiction at {place}", f"{ledger}: ", arguments, advice=advice, stdin=subprocess.DEVNULL)
+            arguments = ["report", "--config", table, "--ledger", "-"]
+            self.twice("a report of a pipe", f"report 2 Contradiction at {place}", "standard input: ", arguments, advice=advice, input=(head + text).encode())
+            advice = f"line {line}: " + words.format("standard input") + ": is it the table of the run?"
+            arguments = ["report", "--config", "-", "--ledger", ledger]
+            self.twice("a report by a piped table", f"report 2 Contradiction at {place}", f"{ledger}: ", arguments, advice=advice, input=TABLE.encode())
+        return told
+
+    def little_memory(self):
+        """A process of 16 MiB: a text of 16 MB doesn't fit, nor does the stack of a thread, which has 8 MiB."""
+
+        def limit():
+            resource.setrlimit(resource.RLIMIT_STACK, (8 * MIB, 8 * MIB))
+            resource.setrlimit(resource.RLIMIT_AS, (16 * MIB, 16 * MIB))
+
+        blanks = b" " * (16 * 10**6)
+        self.desk.lay(config=TABLE, filter=EVERY, a=header(), b=header())
+        debug = ["debug", "--filter", self.desk.paths["filter"], "--tap", self.desk.paths["a"]]
+        ran = run(self.desk.arguments(), stdin=subprocess.DEVNULL, stdout=subprocess.PIPE, preexec_fn=limit)
+        made = watch(TABLE, EVERY, header(), header())
+        self.case("little memory: no room for a thread", self.desk.agrees(ran, made.capture, made.lines + made.summary))
+        told = [self.twice("little memory", "asm 8 Memory", "", ["asm"], input=blanks + b"ret #0", preexec_fn=limit)]
+        told.append(self.twice("little memory", "debug 4 Memory", "", debug, input=blanks, preexec_fn=limit))
+        self.desk.lay(config=TABLE, filter=blanks + EVERY.encode(), a=header(), b=header())
+        told.append(self.twice("little memory", "watch 7 Memory", "", self.desk.arguments(), stdin=subprocess.DEVNULL, preexec_fn=limit))
+        return told
+
+    def test_helps(self):
+        """Help and version, whole, on standard output, at a terminal and elsewhere, by each way to ask for them."""
+        version = version_of_the_program()
+        asked = [(["--help"], PROGRAM_HELP), (["-h"], PROGRAM_HELP), (["help"], PROGRAM_HELP), (["--version"], version), (["-V"], version)]
+        for command in ABOUT:
+            asked += [([command, "--help"], help_of(command)), ([command, "-h"], help_of(command)), (["help", command], help_of(command))]
+        for arguments, text in asked:
+            # Where the usage is clap's own it names the program by its file.
+            for usage in ("Usage: afdxmon <COMMAND>", "Usage: afdxmon asm [OPTIONS]"):
+                text = text.replace(usage, usage.replace("afdxmon", os.path.basename(PROGRAM)))
+            fault = difference(run(arguments, stdin=subprocess.DEVNULL, stdout=subprocess.PIPE), SUCCESS, "", text.encode())
+            ran = run_at_terminal(arguments, stdin=subprocess.DEVNULL)
+            if not fault and (ran.returncode != SUCCESS or ran.stderr or ran.stdout != text.encode()):
+                fault = f"at a terminal: status {ran.returncode}, {ran.stderr!r}, {ran.stdout!r}"
+            self.case(f"the text of {' '.join(arguments)}", fault)
+
+    def test_notes(self):
+        """The note on a recording that ends early, and at a terminal what to do with it. Elsewhere the note stands alone."""
+        for given, ending in EARLY:
+            note = f"afdxmon: note: recording ends {ending}\n"
+            self.desk.lay(filter=EVERY, a=given)
+            debug = ["debug", "--filter", self.desk.paths["filter"], "--tap", self.desk.paths["a"]]
+            for arguments, how, name in (
+                (["capture", "--code", EVERY], {"input": given}, "standard input"),
+                (debug, {"stdin": subprocess.DEVNULL}, self.desk.paths["a"]),
+            ):
+                ran = run(arguments, stdout=subprocess.PIPE, **how)
+                fault = difference(ran, SUCCESS, note[:-1])
+                ran = run_at_terminal(arguments, **how)
+                whole = f"{note}{name}: {advice_on_ending(note)}\n"
+                if not fault and (ran.returncode, ran.stderr) != (SUCCESS, whole):
+                    fault = f"at a terminal: status {ran.returncode}, {ran.stderr!r}, not {whole!r}"
+                self.case(f"a note of {arguments[0]}: {ending}", fault)

@@ -6,8 +6,8 @@ program looks at the recordings. Each sender keeps well clear of its account's b
 import random
 from collections import namedtuple
 
-from flights import CONSTANT, MS, START, link, recording_of
-from transit_reference import Options
+from tests.flights import CONSTANT, MS, START, link, recording_of
+from tests.transit_reference import Options
 
 US = 10**3
 BOUND, END = 500 * US, 600 * MS

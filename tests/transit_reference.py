@@ -11,8 +11,8 @@ from collections import namedtuple
 
 sys.path.insert(0, os.path.dirname(os.path.abspath(__file__)))
 sys.dont_write_bytecode = True
-from analyser import ADDRESSED, Frame, class_of, link_id, size_of, table_of  # noqa: E402
-from reference import parse  # noqa: E402
+from tests.analyser import ADDRESSED, Frame, class_of, link_id, size_of, table_of  # noqa: E402
+from tests.reference import parse  # noqa: E402
 
 BEFORE = ("passed", "slow", "overtaken", "changed", "lax", "leak", "dropped", "refused", "unrouted", "open")
 AFTER = ("twice", "new", "elsewhere", "open")
