@@ -535,8 +535,8 @@ class Report(Case):
         links = [dict(l, redundancy=True, integrity=True) for l in links_of(chance, 5)]
         table, ledger, _ = ledger_in(self.folder, table_of(links), traffic(chance, links, 2, 0.02))
         part = os.path.join(self.folder, "part.ledger")
-        for name, words in (("a time", ["--from", "+0.5", "--to", "+1.25s"]), ("a link", ["--link", "link_1,10"]), ("a network", ["--network", "B"]),
-                            ("a minute", ["--from", "08:00", "--to", "08:00:00.7"]), ("all of these", ["--from", "+0.5s", "--to", "+1", "--link", "link_*", "--network", "A"]),
+        for name, words in (("a time", ["--from", "+0.5", "--to", "+1.25"]), ("a link", ["--link", "link_1,10"]), ("a network", ["--network", "B"]),
+                            ("a minute", ["--from", "08:00:00", "--to", "08:00:00.7"]), ("all of these", ["--from", "+0.5", "--to", "+1", "--link", "link_*", "--network", "A"]),
                             ("nothing", ["--from", "+100"])):
             cut = run(["cut", "--config", table, "--ledger", ledger, *words, "--ledger-only", "-o", part], stdout=subprocess.PIPE)
             with open(part, encoding="ascii") as text:
