@@ -180,7 +180,9 @@ def told_to(terminal):
 def readable_program(folder):
     """A copy of the program in this folder, which another user may look into: that user may not look into the folder that it stands in."""
     program = shutil.copy(PROGRAM, os.path.join(folder, "program"))
-    os.chmod(folder, 0o755)
+    while folder.startswith(os.path.realpath(tempfile.gettempdir()) + os.sep):
+        os.chmod(folder, 0o755)
+        folder = os.path.dirname(folder)
     os.chmod(program, 0o755)
     return program
 
