@@ -180,9 +180,10 @@ def told_to(terminal):
 def readable_program(folder):
     """A copy of the program in this folder, which another user may look into: that user may not look into the folder that it stands in."""
     program = shutil.copy(PROGRAM, os.path.join(folder, "program"))
-    while folder.startswith(os.path.realpath(tempfile.gettempdir()) + os.sep):
+    os.chmod(folder, 0o755)
+    # Those above it that this run of the tests made are private too.
+    while os.path.basename(folder := os.path.dirname(folder)).startswith(tempfile.gettempprefix()) and not os.stat(folder).st_mode & 0o001:
         os.chmod(folder, 0o755)
-        folder = os.path.dirname(folder)
     os.chmod(program, 0o755)
     return program
 
