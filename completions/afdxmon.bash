@@ -21,18 +21,19 @@ _afdxmon() {
     fi
     COMPREPLY=()
     if [ "$i" -eq 1 ]; then
-        _afdxmon_words 'capture asm watch debug cut links report check help -h --help -V --version' "$current"
+        _afdxmon_words 'capture asm watch debug cut links report check transit help -h --help -V --version' "$current"
         return
     fi
     case ${COMP_WORDS[1]} in
-        capture | asm | watch | debug | cut | links | report | check)
+        capture | asm | watch | debug | cut | links | report | check | transit)
             case ${COMP_WORDS[1]}:$previous in
                 report:--fail-on) _afdxmon_words 'trouble notice' "$current"; return ;;
                 capture:--late-us | debug:--late-us) _afdxmon_words 'any' "$current"; return ;;
-                cut:--network | report:--network) _afdxmon_words 'A B' "$current"; return ;;
+                cut:--network | report:--network | transit:--network) _afdxmon_words 'A B' "$current"; return ;;
+                transit:--police) _afdxmon_words 'bytes frames' "$current"; return ;;
                 cut:--verdict) _afdxmon_words 'discarded faults delivered cut runt oversize foreign unconfigured toolong regular excess within first next skip reset off out deliver copy both' "$current"; return ;;
                 watch:--workers) _afdxmon_words '1 2 3 4 5 6 7 8' "$current"; return ;;
-                *:--around | *:--code | *:--column | *:--constant | *:--filters | *:--from | *:--late-us | *:--link | *:--span | *:--title | *:--to) return ;;
+                *:--around | *:--bound-us | *:--code | *:--column | *:--constant | *:--early-us | *:--expected | *:--filters | *:--from | *:--grace-us | *:--late-us | *:--link | *:--routed | *:--shift-ns | *:--span | *:--title | *:--to | *:--within-us) return ;;
                 *:--digest | *:--help | *:--json | *:--ledger-only | *:--pcapng | *:--quiet | *:--strict | *:--verbose | *:--whole) ;;
                 *:-o | *:--*) _afdxmon_files "$current"; return ;;
             esac
@@ -46,8 +47,9 @@ _afdxmon() {
         cut:-*) _afdxmon_words '--ledger --a --b --config --link --network --verdict --from --to --span --filters --around --ledger-only --pcapng -o --output -v --verbose -h --help' "$current" ;;
         links:-*) _afdxmon_words '--a --b --constant --icd --column -v --verbose -h --help' "$current" ;;
         report:-*) _afdxmon_words '--config --ledger --manifest --baseline --baseline-config --from --to --link --network --json --csv --title --fail-on -o --output -v --verbose -h --help' "$current" ;;
-        check:-*) _afdxmon_words '--config --filter --a --b --whole --json -v --verbose -h --help' "$current" ;;
-        help:*) _afdxmon_words 'capture asm watch debug cut links report check help' "$current" ;;
+        check:-*) _afdxmon_words '--config --filter --a --b --expected --whole --json -v --verbose -h --help' "$current" ;;
+        transit:-*) _afdxmon_words '--config --before --after --network --within-us --early-us --bound-us --routed --shift-ns --police --grace-us --late-us --ledger --json -v --verbose -h --help' "$current" ;;
+        help:*) _afdxmon_words 'capture asm watch debug cut links report check transit help' "$current" ;;
         capture:*) _afdxmon_files "$current" ;;
     esac
 }

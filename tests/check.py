@@ -6,11 +6,13 @@ are looked for among all earlier frames, check sequences by zlib, and the differ
 import json
 import os
 import random
+import re
 import struct
 import subprocess
 import zlib
 from datetime import datetime, timedelta, timezone
 
+from tests import flights
 from tests import texts
 from tests.harness import FAULT, SUCCESS, Case, difference, frame, header, record, run, run_at_terminal
 from tests.reference import disorder, lateness_after, parse
@@ -241,17 +243,21 @@ def network_line(network, path, recording, frames, ending, kind=None):
 
 
 def copies_within(frames, skew):
-    """How many of a link's frames, (network, stamp, number) in order, are copies."""
-    count, copies = 0, set()
-    for at, (network, stamp, number) in enumerate(frames):
+    """The places of a link's frames, (network, stamp, number, bytes) in order, that are copies."""
+    copies = set()
+    for at, (network, stamp, number, _) in enumerate(frames):
         before = next((k for k in reversed(range(at)) if frames[k][2] == number), None)
         if before is None or before in copies or frames[before][0] == network:
             continue
         since = sum(frames[k][0] != network for k in range(before, at))
         if since <= 128 and stamp - frames[before][1] <= skew:
             copies.add(at)
-            count += 1
-    return count
+    return copies
+
+
+def sourceless(data):
+    """A frame without its source address."""
+    return data[:6] + data[12:]
 
 
 # What frames of other traffic carry, by EtherType.
@@ -262,13 +268,21 @@ def nearly_all(count, of):
     return of > 0 and of - count <= of // 10
 
 
+def where(frames):
+    """Of frames, (stamp, link), the links and the time."""
+    links = sorted({link for _, link in frames})
+    more = f" and {len(links) - 1} more" if len(links) > 1 else ""
+    return f"of link {links[0]}{more}, from {moment(min(frames)[0])} to {moment(max(frames)[0])}"
+
+
 class Reference:
     """What the rules say of two recordings, each a list of (stamp, length, bytes), and a table of links."""
 
-    def __init__(self, links, a, b, constant, readable):
+    def __init__(self, links, a, b, constant, readable, expected):
         self.taps, self.links, self.constant, self.readable = {"A": a, "B": b}, links, constant, readable
         self.foreign, self.long, self.unlisted, self.by_link = {}, 0, {}, {link["id"]: [] for link in links}
-        self.kinds, self.listed = {}, {"A": [], "B": []}
+        self.expected = {kind: 0 for kind in expected}
+        self.kinds, self.listed, self.held = {}, {"A": [], "B": []}, {}
         frames = sorted((stamp, network, k) for network, tap in self.taps.items() for k, (stamp, _, _) in enumerate(tap))
         for stamp, network, k in frames:
             self.see(network, *self.taps[network][k])
@@ -279,20 +293,24 @@ class Reference:
             return
         constant, link = int.from_bytes(data[:4], "big"), int.from_bytes(data[4:6], "big")
         if constant != self.constant:
-            self.foreign[constant] = self.foreign.get(constant, 0) + 1
             kind = int.from_bytes(data[12:14], "big")
             kind = kind if kind >= 0x600 else 0
+            if kind in self.expected:
+                self.expected[kind] += 1
+                return
+            self.foreign[constant] = self.foreign.get(constant, 0) + 1
             self.kinds[kind] = self.kinds.get(kind, 0) + 1
         elif link not in self.by_link:
             self.unlisted[link] = self.unlisted.get(link, 0) + 1
         else:
             smax = next(one["smax"] for one in self.links if one["id"] == link)
             self.long += length + 4 > smax
-            self.by_link[link].append((network, stamp, data[-1]))
+            self.by_link[link].append((network, stamp, data[-1], data))
             self.listed[network].append((stamp, link, data[11] >> 5))
+            self.held.setdefault((network, link), []).append((stamp, data))
 
     def of(self, link, network):
-        return [(stamp, number) for on, stamp, number in self.by_link[link] if on == network]
+        return [(stamp, number) for on, stamp, number, _ in self.by_link[link] if on == network]
 
     def same(self):
         key = lambda tap: [(stamp, length, data[4:6], data[-1:]) for stamp, length, data in tap]
@@ -310,8 +328,33 @@ class Reference:
         """Frames of A and B and copies, of the links with redundancy management on."""
         on = [link for link in self.links if link["redundancy"]]
         count = lambda network: sum(len(self.of(link["id"], network)) for link in on)
-        copies = sum(copies_within(self.by_link[link["id"]], link["skew_us"] * 1000) for link in on)
+        copies = sum(len(self.copies(link)) for link in on)
         return count("A"), count("B"), copies
+
+    def copies(self, link):
+        """The places of a link's copies."""
+        return copies_within(self.by_link[link["id"]], link["skew_us"] * 1000 if link["redundancy"] else 0)
+
+    def lonely(self):
+        """How many redundant links have 8 frames on both networks at least, and no copy."""
+        on = [link for link in self.links if link["redundancy"]]
+        return sum(min(len(self.of(link["id"], "A")), len(self.of(link["id"], "B"))) >= 8 and not self.copies(link) for link in on)
+
+    def unlike(self):
+        """The question on copies of links with integrity checking that differ from the last frame of the other network, if that has the number."""
+        out, count = [], 0
+        for link in self.links:
+            frames = self.by_link[link["id"]]
+            for at in sorted(self.copies(link)) if link["integrity"] else ():
+                network, stamp, number, data = frames[at]
+                last = next(frames[k] for k in reversed(range(at)) if frames[k][0] != network)
+                count += last[2] == number
+                if last[2] == number and sourceless(last[3]) != sourceless(data):
+                    out.append((stamp, link["id"]))
+        if not out:
+            return []
+        text = f"do both networks carry the same frames? {len(out)} of {count} copies have other bytes than their frames, source addresses aside, "
+        return [f"{text}{where(out)}. Are the clocks apart by a round of 255 numbers, or does something on the way change frames?"]
 
     def difference(self):
         """How far B's clock is ahead, by most of the links whose pair is further apart than their own SkewMax, how many say so, and how
@@ -352,9 +395,10 @@ class Reference:
             if self.overlap() is False:
                 out.append("do the recordings belong together? One ends before the other begins")
         foreign = sum(self.foreign.values())
-        if nearly_all(foreign, self.all):
+        of = self.all - sum(self.expected.values())
+        if nearly_all(foreign, of):
             constant = max(self.foreign, key=lambda one: self.foreign[one])
-            out.append(f"is the table's 'constant' that of this network? Not that of {foreign} of {self.all} frames; {self.foreign[constant]} have {constant}")
+            out.append(f"is the table's 'constant' that of this network? Not that of {foreign} of {of} frames; {self.foreign[constant]} have {constant}")
         checks = [n for n in "AB" if self.has_checks(n)]
         out += [f"does the recording of network {n} hold frame check sequences? editcap -F nsecpcap -L -C -4 in.pcap out.pcap takes them off" for n in checks]
         tagged = {n: sum(data[12:14] == b"\x81\0" for _, _, data in self.taps[n]) for n in "AB"}
@@ -366,23 +410,33 @@ class Reference:
         ]
         if not checks and not tagged and nearly_all(self.long, self.all):
             out.append(f"does 'smax' count a frame without its check sequence? {self.long} of {self.all} frames are longer")
+        out += self.unlike() if not checks and not tagged else []
         out += self.classes()
-        return out + (self.clocks() if not checks and not self.same() else []) + self.crossings()
+        out += self.clocks() if not checks and not self.same() else []
+        return out + [text for network in "AB" for text in self.doubles(network) + self.crossings(network)]
 
-    def crossings(self):
-        """Networks where frames of the table's links name the other network, though nearly all name one."""
-        wired = self.same() or any(self.marked("A", one) and self.marked("B", other) for one in "AB" for other in "AB" if (one, other) != ("A", "B"))
+    def doubles(self, network):
+        """Of a network the frames that have all bytes of the one before, less than half of a BAG later."""
         out = []
-        for network, other in ("AB", "BA"):
-            listed = self.listed[network]
-            others = [(stamp, link) for stamp, link, mark in listed if mark == {"A": 1, "B": 2}[other]]
-            if wired or not others or not nearly_all(sum(mark in (1, 2) for _, _, mark in listed), len(listed)):
-                continue
-            links = sorted({link for _, link in others})
-            text = f"were cables of network {network} swapped? {len(others)} of {len(listed)} frames there have source addresses of network {other}, of link {links[0]}"
-            text += f" and {len(links) - 1} more" if len(links) > 1 else ""
-            out.append(f"{text}, from {moment(min(others)[0])} to {moment(max(others)[0])}")
-        return out
+        for link in self.links:
+            frames = self.held.get((network, link["id"]), [])
+            for (before, same), (stamp, data) in zip(frames, frames[1:]):
+                if link["integrity"] and same == data and 2 * (stamp - before) < link["bag_ms"] * MS:
+                    out.append((stamp, link["id"]))
+        if not out:
+            return []
+        text = f"does the recording of network {network} hold frames twice? {len(out)} of {len(self.listed[network])} frames there have all bytes of the one before, "
+        text += f"less than half of a BAG later, {where(out)}. Record each frame once (a mirror port brings both ways), or take off the second: "
+        return [text + "editcap -F nsecpcap -d in.pcap out.pcap"]
+
+    def crossings(self, network):
+        """A network where frames of the table's links name the other one, though nearly all name one."""
+        wired = self.same() or any(self.marked("A", one) and self.marked("B", other) for one in "AB" for other in "AB" if (one, other) != ("A", "B"))
+        other, listed = {"A": "B", "B": "A"}[network], self.listed[network]
+        others = [(stamp, link) for stamp, link, mark in listed if mark == {"A": 1, "B": 2}[other]]
+        if wired or not others or not nearly_all(sum(mark in (1, 2) for _, _, mark in listed), len(listed)):
+            return []
+        return [f"were cables of network {network} swapped? {len(others)} of {len(listed)} frames there have source addresses of network {other}, {where(others)}"]
 
     def classes(self):
         unlisted, out = sum(self.unlisted.values()), []
@@ -399,17 +453,22 @@ class Reference:
 
     def clocks(self):
         a, b, copies = self.pairs()
+        told, lonely = self.difference(), self.lonely()
         if not (a and b and 2 * copies < a and 2 * copies < b):
+            if told and lonely >= 2 and nearly_all(told[1], told[2]):
+                text = f"are the clocks of the taps apart by rounds of 255 numbers? Most frames have a copy, and {counted(lonely, 'link')} have none."
+                return [text + self.apart(told)]
             return []
-        told = self.difference()
         if told is None and not (copies == 0 and self.overlap()):
             return []
         text = "are the clocks of the taps apart? Under half of the frames have a copy within SkewMax."
-        if told:
-            ahead, nanos = "B" if told[0] > 0 else "A", abs(told[0])
-            text += f" By equal sequence numbers that of {ahead} is {nanos // 10**9}.{nanos % 10**9:09} s ahead, say {told[1]} of {told[2]} links"
-            text += f"; editcap -F nsecpcap -t -{nanos // 10**9}.{nanos % 10**9:09} in.pcap out.pcap sets it back"
-        return [text]
+        return [text + (self.apart(told) if told else "")]
+
+    @staticmethod
+    def apart(told):
+        ahead, nanos = "B" if told[0] > 0 else "A", abs(told[0])
+        text = f" By equal sequence numbers that of {ahead} is {nanos // 10**9}.{nanos % 10**9:09} s ahead, say {told[1]} of {told[2]} links"
+        return text + f"; editcap -F nsecpcap -t -{nanos // 10**9}.{nanos % 10**9:09} in.pcap out.pcap sets it back"
 
     def notes(self):
         absent = [f"{link['id']} {link['name']}" for link in sorted(self.links, key=lambda one: one["id"]) if not self.by_link[link["id"]]]
@@ -418,9 +477,11 @@ class Reference:
         for what, names in ((f"no frame is of {counted(len(absent), 'link')} of the table", absent), (f"the table lacks {counted(len(unlisted), 'link')}", unlisted)):
             if names:
                 text += f"note: {what}: " + ", ".join(names[:20]) + (f" and {len(names) - 20} more" if len(names) > 20 else "") + "\n"
+        listed = lambda counts: [f"{count} {KINDS[kind]}" if kind in KINDS else f"{count} of EtherType 0x{kind:04x}" for kind, count in counts.items()]
+        if self.expected:
+            text += f"note: expected traffic, {counted(sum(self.expected.values()), 'frame')}: {', '.join(listed(self.expected))}\n"
         if self.kinds:
-            kinds = [f"{count} {KINDS[kind]}" if kind in KINDS else f"{count} of EtherType 0x{kind:04x}" for kind, count in self.kinds.items()]
-            more = sum(list(self.kinds.values())[8:])
+            kinds, more = listed(self.kinds), sum(list(self.kinds.values())[8:])
             text += f"note: foreign traffic, {counted(sum(self.kinds.values()), 'frame')}: {', '.join(kinds[:8])}" + (f" and {more} more" if more else "") + "\n"
         return text
 
@@ -430,8 +491,8 @@ def toml_of(links, constant=50331648, late=0):
     return text + "".join("\n[[link]]\n" + "".join(f"{key} = {json.dumps(value)}\n" for key, value in link.items()) for link in links)
 
 
-def expected(config, links, recordings, constant=50331648, late=0, kinds=()):
-    """The answer on a sound table and recordings, by network (path, bytes)."""
+def expected(config, links, recordings, constant=50331648, late=0, kinds=(), traffic=()):
+    """The answer on a sound table and recordings, by network (path, bytes), with other traffic of these EtherTypes expected."""
     text = f"table: {config}: {counted(len(links), 'link')}, constant {constant}\n"
     taps, readable = {"A": [], "B": []}, set()
     for network, (path, recording) in recordings.items():
@@ -440,7 +501,7 @@ def expected(config, links, recordings, constant=50331648, late=0, kinds=()):
         if not ending.startswith("bad"):
             readable.add(network)
     faults = len(recordings) - len(readable)
-    about = Reference(links, taps["A"], taps["B"], constant, readable)
+    about = Reference(links, taps["A"], taps["B"], constant, readable, traffic)
     text += {True: "overlap: the recordings overlap in time\n", False: "overlap: none\n", None: ""}[about.overlap()]
     questions = about.questions()
     text += "".join(f"question: {question}\n" for question in questions) + about.notes()
@@ -464,8 +525,9 @@ def sent(chance, links, cycles, marks=(0x20, 0x40), check=False, first=3):
         number, at = chance.randrange(1, 256), START + chance.randrange(link["bag_ms"] * MS)
         for _ in range(cycles):
             number, at = number % 255 + 1, at + link["bag_ms"] * MS
+            size = chance.randrange(60, link["smax"] - 3)
             for network, mark in zip("AB", marks):
-                data = bytearray(frame(link["id"], chance.randrange(60, link["smax"] - 3), number))
+                data = bytearray(frame(link["id"], size, number))
                 data[0], data[11] = first, mark
                 data += zlib.crc32(bytes(data)).to_bytes(4, "little") if check else b""
                 taps[network].append((at + chance.randrange(50_000) + (100_000 if network == "B" else 0), bytes(data)))
@@ -610,6 +672,100 @@ def taps_and_cables():
     yield "one frame of other traffic", links, file_of(sorted(a + traffic[:1])), file_of(b)
 
 
+def doubled(frames, which, later=2000, times=1):
+    """Frames, of which those for which this holds, (place, stamp, bytes), come again, so many nanoseconds later."""
+    again = [(stamp + (n + 1) * later, data) for k, (stamp, data) in enumerate(frames) if which(k, stamp, data) for n in range(times)]
+    return sorted(frames + again, key=lambda one: one[0])
+
+
+def mirrors():
+    """Frames that are recorded twice: links, A and B, by name."""
+    chance = random.Random(37)
+    links = links_of(chance, 6)
+    a, b = sent(chance, links, 50)
+    link = links[3]
+    is_of = lambda k, stamp, data: data[4:6] == struct.pack(">H", link["id"])
+    late = a[len(a) // 2][0]
+    yield "all frames of A twice", links, file_of(doubled(a, lambda *_: True)), file_of(b)
+    yield "all frames of both networks twice", links, *(file_of(doubled(tap, lambda *_: True)) for tap in (a, b))
+    yield "all frames of A three times", links, file_of(doubled(a, lambda *_: True, times=2)), file_of(b)
+    yield "frames of one link of B twice", links, file_of(a), file_of(doubled(b, is_of))
+    yield "frames of B twice from a moment on", links, file_of(a), file_of(doubled(b, lambda k, stamp, data: stamp >= late))
+    yield "one frame of A twice", links, file_of(doubled(a, lambda k, stamp, data: k == 77)), file_of(b)
+    yield "frames of B twice at one time", links, file_of(a), file_of(doubled(b, lambda k, stamp, data: k % 7 == 0, later=0))
+    half = link["bag_ms"] * MS // 2
+    for later in (half - 1, half):
+        yield f"frames of a link of A twice, {later} ns later of {2 * half}", links, file_of(doubled(a, is_of, later)), file_of(b)
+    again = [(stamp + 2000, data[:40] + bytes([data[40] ^ 1]) + data[41:]) for k, (stamp, data) in enumerate(a) if is_of(k, stamp, data)]
+    yield "frames of a link of A twice, but for a bit", links, file_of(sorted(a + again)), file_of(b)
+    off = [{**one, "integrity": one is not link} for one in links]
+    yield "frames of a link of A twice, without integrity checking", off, file_of(doubled(a, is_of)), file_of(b)
+    lacking = [one for one in links if one is not link]
+    yield "frames of a link twice that the table lacks", lacking, file_of(doubled(a, is_of)), file_of(b)
+
+
+def unlike_copies():
+    """Copies that have other bytes than their frames: links, A and B, by name."""
+    chance = random.Random(39)
+    links = [{**link, "integrity": True, "redundancy": True} for link in links_of(chance, 6)]
+    a, b = sent(chance, links, 50)
+    link = links[2]
+    is_of = lambda data: data[4:6] == struct.pack(">H", link["id"])
+    flipped = lambda data, at: data[:at] + bytes([data[at] ^ 1]) + data[at + 1 :]
+    longer = lambda data: data[:-1] + bytes(4) + data[-1:]
+    for name, changed in (
+        ("a bit of a link's frames on B", [(stamp, flipped(data, 40) if is_of(data) else data) for stamp, data in b]),
+        ("a bit of one frame on B", [(stamp, flipped(data, 58) if k == 99 else data) for k, (stamp, data) in enumerate(b)]),
+        ("a source address", [(stamp, flipped(data, 9)) for stamp, data in b]),
+        ("the byte after it", [(stamp, flipped(data, 12) if k % 10 == 0 else data) for k, (stamp, data) in enumerate(b)]),
+        ("lengths of frames on B", [(stamp, longer(data) if k % 3 == 0 and len(data) < 90 else data) for k, (stamp, data) in enumerate(b)]),
+    ):
+        yield f"copies with another value: {name}", links, file_of(a), file_of(changed)
+    off = [{**one, "integrity": one is not link, "redundancy": one is not links[3]} for one in links]
+    yield "copies of which some links aren't compared", off, file_of(a), file_of([(stamp, flipped(data, 40)) for stamp, data in b])
+    counted_up = [[(stamp, data[:20] + struct.pack(">Q", (stamp // MS)) + data[28:]) for stamp, data in tap] for tap in (a, a)]
+    yield "copies whose payload tells their time", links, file_of(counted_up[0]), file_of([(stamp + 3000, data[:11] + b"\x40" + data[12:]) for stamp, data in counted_up[1]])
+
+
+# ---- clocks
+
+
+def rounds():
+    """Clocks that are apart by a round of 255 numbers of some links: links, A and B, by name."""
+    for name, bags in (("two others", (8, 8, 8, 8, 8, 4, 32, 16)), ("one other", (8, 8, 8, 8, 8, 4, 4, 16)), ("none other", (8,) * 6)):
+        links = [{"id": k + 1, "name": f"l{k}", "bag_ms": bag, "jitter_us": 500, "smax": 400, "integrity": True, "redundancy": True, "skew_us": 1000} for k, bag in enumerate(bags)]
+        taps = {"A": [], "B": []}
+        for link in links:
+            step = link["bag_ms"] * MS
+            for k in range(6_000 * MS // step):
+                for network, late in (("A", 0), ("B", 40_000 + 255 * 8 * MS)):
+                    data = marked_as(frame(link["id"], 80, k % 255 + 1), 0x20 if network == "A" else 0x40)
+                    taps[network].append((START + link["id"] * 10_000 + k * step + late, data))
+        yield f"the clock of B ahead by a round of links with BAG 8 ms, and {name}", links, *(file_of(sorted(taps[network])) for network in "AB")
+
+
+def flight_of_clocks(chance, bags=(4, 8, 8, 16, 32, 64, 128, 16, 4, 8), seconds=20):
+    """A sound flight of periodic links."""
+    rows = [flights.link(k + 1, bag, 100, True, 5000) for k, bag in enumerate(bags)]
+    return flights.flight_of(chance, [(row, list(flights.periodic(chance, row, seconds * 10**9)), "AB") for row in rows])
+
+
+def stamp_of(text):
+    """The nanoseconds since 1970 of a moment."""
+    whole, _, fraction = text.removesuffix("Z").partition(".")
+    second = (datetime.fromisoformat(whole + "+00:00") - datetime(1970, 1, 1, tzinfo=timezone.utc)) // timedelta(seconds=1)
+    return second * 10**9 + int(fraction.ljust(9, "0") if fraction else 0)
+
+
+def later(tap, at, size):
+    """The frames of a tap whose clock goes forward by so much from a moment on."""
+    return [(stamp + (size if stamp >= at else 0), data) for stamp, data in tap]
+
+
+# By how much clocks are set.
+SIZES = [800_000, 2 * MS, 5 * MS, 20 * MS, 50 * MS, 100 * MS, 300 * MS, 10**9, 2_040 * MS, 60 * 10**9, 3600 * 10**9]
+
+
 def statistics(interface, options, order="<"):
     """A pcapng block of an interface's statistics."""
     body = struct.pack(order + "III", interface, 0, 0)
@@ -682,6 +838,53 @@ class Check(Case):
         text = f"table: {path}: 1 link, constant 50331648\nfilter: --filter: 3 instructions\nsound: yes\n"
         self.judged("a filter", asked("--config", path, "--filter", code), text)
 
+    def test_of_clocks(self):
+        """Clocks that are set while they record, which is told with its size and its moment, and what looks like it."""
+        config, paths = os.path.join(self.folder, "t.toml"), {n: os.path.join(self.folder, f"{n}.pcap") for n in "AB"}
+
+        def answer(flight, taps):
+            write(config, flights.table_of(flight.links))
+            for n in "AB":
+                write(paths[n], header() + b"".join(record(START + stamp, data) for stamp, data in taps[n]))
+            given = [word for n in "AB" if taps[n] for word in (f"--{n.lower()}", paths[n])]
+            return json.loads(asked("--config", config, *given, "--json").stdout)
+
+        for seed, (n, size, part) in enumerate((n, size, part) for n in "AB" for size in SIZES for part in (0.3, 0.5, 0.7)):
+            chance = random.Random(3900 + seed)
+            flight = flight_of_clocks(chance)
+            at = int(part * 20 * 10**9) + chance.randrange(10**9)
+            found = answer(flight, {**flight.taps, n: later(flight.taps[n], at, size)})["questions"]
+            one = found[0] if len(found) == 1 else None
+            fits = one and one["question"] == f"step_{n.lower()}" and one["difference"]["ahead"] == n
+            told = int(one["difference"]["nanoseconds"]) if fits else 0
+            close = abs(told - size) <= (max(size // 20, 150_000) if "set forward by" in (one or {}).get("text", "") else 10 * MS)
+            moments = [stamp_of(text) for text in re.findall(r"[0-9-]+T[0-9:.]+Z", one["text"])] if fits else []
+            around = len(moments) == 2 and moments[0] < START + at <= moments[1] and moments[1] - moments[0] < size + 500 * MS
+            self.case(f"check: the clock of {n} goes forward by {size / 10**9} s after {part} of the flight", "" if fits and close and around else json.dumps(found))
+        chance = random.Random(3950)
+        flight = flight_of_clocks(chance)
+        early = 3 * 10**9
+        for name, taps in (
+            ("of B", {**flight.taps, "B": [(stamp if stamp >= early else stamp - START, data) for stamp, data in flight.taps["B"]]}),
+            ("of A alone", {"A": [(stamp if stamp >= early else stamp - START, data) for stamp, data in flight.taps["A"]], "B": []}),
+        ):
+            found = answer(flight, taps)["questions"]
+            fits = len(found) == 1 and found[0]["question"] == f"step_{name[3].lower()}" and "from 1970-01-01T00:00:02." in found[0]["text"] and " to 2027-" in found[0]["text"]
+            self.case(f"check: a clock {name} that begins in 1970", "" if fits else json.dumps(found))
+        paused = {n: [(stamp if stamp < 8 * 10**9 else stamp + 4 * 10**9, data) for stamp, data in flight.taps[n]] for n in "AB"}
+        lost = {**flight.taps, "B": [f for f in flight.taps["B"] if not 8 * 10**9 <= f[0] < 10 * 10**9]}
+        moved = lambda links, size: {**flight.taps, "B": sorted((stamp + (size if data[5] in links and stamp >= 9 * 10**9 else 0), data) for stamp, data in flight.taps["B"])}
+        for name, taps in (
+            ("all senders pause", paused), ("all senders of one recording pause", {"A": paused["A"], "B": []}), ("network B is silent, and its frames are lost", lost),
+            ("the path of one link becomes longer", moved((4,), 1_500_000)), ("the paths of half of the links become longer", moved((1, 2, 3, 4, 5), 1_500_000)),
+            ("the path of one link becomes much longer", moved((4,), 40 * MS)),
+        ):
+            found = answer(flight, taps)["questions"]
+            self.case(f"check: {name}", "" if not found else json.dumps(found))
+        for ppm in (60, -80, 400):
+            found = answer(flight, {**flight.taps, "B": [(stamp + stamp * ppm // 10**6, data) for stamp, data in flight.taps["B"]]})["questions"]
+            self.case(f"check: clocks that drift by {ppm} ppm", "" if [one["question"] for one in found] == ["drift"] else json.dumps(found))
+
     def test_of_holes(self):
         """Zeros and noise within a file: what ends the recording isn't a time."""
         links = [{"id": 5, "name": "brake", "bag_ms": 1, "jitter_us": 0, "smax": 200, "integrity": False, "redundancy": False, "skew_us": 0}]
@@ -738,6 +941,17 @@ class Check(Case):
                 self.case(f"check: dropped, {name}, {order}", "" if found == wanted else f"{found!r}, not {wanted!r}; {ran.stdout}")
                 answer = json.loads(asked("--config", config, "--a", paths[0] + choice, "--json").stdout)
                 self.case(f"check: dropped, {name}, {order}, as JSON", "" if answer["a"]["dropped"] == dropped else str(answer["a"]))
+                outputs = [os.path.join(self.folder, name) for name in ("l", "m.json", "page.html")]
+                ran = run(["watch", "--config", config, "--a", paths[0] + choice, "--ledger", outputs[0], "--manifest", outputs[1]])
+                note = f"afdxmon: note: the recorder of network A dropped {counted(dropped, 'packet')}" if dropped else ""
+                with open(outputs[1], encoding="utf-8") as file:
+                    manifest = json.load(file)["inputs"]["a"]["dropped"]
+                run(["report", "--config", config, "--ledger", outputs[0], "--manifest", outputs[1], "-o", outputs[2]])
+                with open(outputs[2], encoding="ascii") as file:
+                    page = file.read().replace("&#8239;", "")
+                said = f"its recorder dropped {counted(dropped, 'packet')}: lost numbers may be these" in page
+                fits = manifest == (dropped or None) and said == (dropped > 0) and said == (" dropped " in page)
+                self.case(f"check: dropped, {name}, {order}, watch and its report", difference(ran, SUCCESS, note) or ("" if fits else f"{manifest}, {said}"))
             write(paths[0], one + drops)
             write(paths[1], pcapng(["eth0"], [(0, stamp + 10**9, data) for _, stamp, data in frames], order) + statistics(0, [(7, count(25))], order))
             ran = asked("--config", config, "--a", paths[0], paths[1])
@@ -745,7 +959,7 @@ class Check(Case):
 
     def test_of_recordings(self):
         config, paths = os.path.join(self.folder, "t.toml"), {network: os.path.join(self.folder, f"{network}.pcap") for network in "AB"}
-        for name, links, a, b in (*pairs(), *taps_and_cables()):
+        for name, links, a, b in (*pairs(), *taps_and_cables(), *mirrors(), *unlike_copies(), *rounds()):
             write(config, toml_of(links))
             given, recordings = ["--config", config], {}
             for network, recording in (("A", a), ("B", b)):
@@ -759,6 +973,34 @@ class Check(Case):
             fits = "".join(told) in text and len(told) == text.count("question: ") and answer["sound"] == text.endswith("yes\n")
             fits = fits and [link["id"] for link in answer["links"]] == sorted(link["id"] for link in links)
             self.case(f"check: {name}, as JSON", "" if fits else json.dumps(answer)[:600])
+
+    def test_of_expected(self):
+        """Other traffic that is expected, by names and by numbers."""
+        chance = random.Random(38)
+        links = links_of(chance, 4)
+        a, b = sent(chance, links, 30)
+        kinds = (0x88F7, 0x88CC, 0x88F7, 0x0806, 0x0026, 0x8100, 0x9000, 0x9001, 0x9002, 0x9003, 0x9004, 0x9005, 0x9006)
+        traffic = [other(START + k, kind) for k, kind in enumerate(kinds)]
+        config, paths = write(os.path.join(self.folder, "t.toml"), toml_of(links)), [os.path.join(self.folder, f"{network}.pcap") for network in "ab"]
+        for name, frames_a, frames_b in (("some", sorted(a + traffic), b), ("nearly all", traffic, []), ("none", a, b)):
+            recordings = {"A": (write(paths[0], file_of(frames_a)), file_of(frames_a)), "B": (write(paths[1], file_of(frames_b)), file_of(frames_b))}
+            for text, of in (
+                ("ptp", [0x88F7]),
+                ("lldp,ptp,arp,ipv4", [0x88CC, 0x88F7, 0x0806, 0x0800]),
+                ("0x9006,0x88f7,ptp", [0x9006, 0x88F7]),
+                ("802.3,802.1q,ipv6", [0, 0x8100, 0x86DD]),
+                ("ptp,lldp,arp,802.3,802.1q,0x9000,0x9001,0x9002,0x9003,0x9004,0x9005,0x9006", list(dict.fromkeys(kinds[:4])) + [0, *kinds[5:]]),
+            ):
+                ran = asked("--config", config, "--a", paths[0], "--b", paths[1], "--expected", text)
+                self.judged(f"{name} other traffic, --expected {text}", ran, expected(config, links, recordings, traffic=of))
+                answer = json.loads(asked("--config", config, "--a", paths[0], "--b", paths[1], "--expected", text, "--json").stdout)
+                told = {one["ethertype"]: one["frames"] for one in answer["foreign"] if one["expected"]}
+                there = {kind: sum((one if one >= 0x600 else 0) == kind for one in kinds) if name != "none" else 0 for kind in of}
+                self.case(f"check: {name} other traffic, --expected {text}, as JSON", "" if told == there else f"{answer['foreign']}, not {there}")
+        for text in ("", "ptp,", "PTP", "0x5ff", "0x10000", "88f7", "ptp lldp"):
+            ran = asked("--config", config, "--expected", text)
+            wanted = b"--expected is arp, ipv4, ipv6, lldp, ptp, 802.1q, 802.3 or EtherTypes as 0x88f7, with commas"
+            self.case(f"check: --expected {text!r}", "" if ran.returncode == 2 and wanted in ran.stderr else f"{ran.returncode}: {ran.stderr!r}")
 
     def test_of_disorder(self):
         """A frame out of order, by how much, and the `late_us` of the table that takes it: with that the recording is read whole."""

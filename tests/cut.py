@@ -56,9 +56,9 @@ def said(text):
     whole, _, fraction = text.removesuffix("Z").partition(".")
     nanoseconds = int(fraction.ljust(9, "0")) if fraction else 0
     if text.startswith("+"):
-        return "since", int(whole) * 10**9 + nanoseconds
+        return "since", length(text[1:] if text.endswith("s") else text[1:] + "s")
     if not text.endswith("Z"):
-        hours, minutes, seconds = map(int, whole.split(":"))
+        hours, minutes, seconds = map(int, (whole + ":00" if whole.count(":") == 1 else whole).split(":"))
         return "day", ((hours * 60 + minutes) * 60 + seconds) * 10**9 + nanoseconds
     at = datetime.datetime.fromisoformat(whole + "+00:00")
     return "at", round((at - datetime.datetime.fromisoformat("1970-01-01T00:00:00+00:00")) / datetime.timedelta(seconds=1)) * 10**9 + nanoseconds
@@ -371,6 +371,8 @@ class Cut(Case):
         cases += [{"from": str(two + 1), "to": str(two)}, {"from": "0", "to": str(2**32 * 10**9 - 1)}]
         cases += [{"from": first, "to": last} for first in (written(two + 1), "12:00:02.000000001") for last in (written(two), "12:00:02", str(two))]
         cases += [{end: text} for end in ("from", "to") for text in ("+0", "+2", "+2.0", "+1.999999999", "+2.000000001", "+2.000000002", "+4", "+4.000000001", "+4294967295.999999999")]
+        cases += [{end: text} for end in ("from", "to") for text in ("+2s", "+1.999999999s", "+2.000000001s", "+2000ms", "+2000.000001ms", "+2000000us", "+1999999.999us", "+0us", "12:00", "12:01", "11:59", "00:00", "23:59")]
+        cases += [{"from": "12:00", "to": text} for text in ("12:00", "12:00:02", "12:01", "11:59", "+2s")] + [{"from": "12:00", "span": "2s"}, {"from": "11:59", "span": "2s"}]
         cases += [{"from": "+1", "to": text} for text in ("+1", "+2", "+0.999999999", "12:00:02", "12:00:00", str(two), written(two))]
         cases += [{"to": text} for text in ("12:00:00", "11:59:59.999999999", "12:00:00.000000001", "00:00:00", "23:59:59.999999999")]
         cases += [{"from": text} for text in ("11:59:59.999999999", "00:00:00", "23:59:59.999999999")]
@@ -546,8 +548,8 @@ class Cut(Case):
         wrong = [("link", text) for text in ("5-4", "65536", "5,", ",5", "5--6", "", "brake", "5-")]
         wrong += [("verdict", text) for text in ("exces", "out,", "", "A", "out copy", "-")]
         wrong += [("filters", text) for text in ("", "0", "100", "0g", "+1", "00")]
-        wrong += [(end, text) for end in ("from", "to") for text in ("24:00:00", "12:00", "24:00", "12:60", "12:0", "1:000", "12:0x", "+s", "+1ss", "+1m", "+1ms", "12:60:00", "12:00:00.", "12:00:00.1234567890", "1969-12-31T23:59:59Z",
-                  "2027-02-29T00:00:00Z", "2106-02-07T06:28:16Z", str(2**32 * 10**9), "-1", "noon", "+", "++1", "+-1", "+1.", "+.5", "+1.0123456789", "+1s", "1+1", "+ 1", "+1.2.3", "+1.+5", "+4294967296", "2027-01-15T08:00:12", "2027-01-15T08:00:12+01:00", "")]
+        wrong += [(end, text) for end in ("from", "to") for text in ("24:00:00", "24:00", "12:60", "12:0", "1:000", "12:0x", "12:.0", "12:00Z", "+s", "+ms", "+1ss", "+1m", "+1h", "+1.0000001ms", "+1.s", "12:60:00", "12:00:00.", "12:00:00.1234567890", "1969-12-31T23:59:59Z",
+                  "2027-02-29T00:00:00Z", "2106-02-07T06:28:16Z", str(2**32 * 10**9), "-1", "noon", "+", "++1", "+-1", "+1.", "+.5", "+1.0123456789", "1s", "1+1", "+ 1", "+1.2.3", "+1.+5", "+4294967296", "2027-01-15T08:00:12", "2027-01-15T08:00:12+01:00", "")]
         wrong += [("span", text) for text in ("", "2", "s", "ms", "2m", "2h", "2ns", "-1s", "+1s", "1.s", ".5s", "1.0000000001s", "1.0000001ms", "1.0001us", "2 s", "2S", "2ss",
                   "2mss", "1e3s", "1:00s", "1.2.3s", "4294967296s", "4294967296us")]
         cases += [("--to and --span", [*whole, "--to", "1", "--span", "1s"], "--to and --span both end the span of time: give one of them")]

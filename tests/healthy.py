@@ -152,7 +152,8 @@ class Healthy(Case):
         answer = Judged(self.folder, mixed).check()
         self.asked("both networks in one recording", answer, "network A hold both networks?", "tcpdump --nano -r", "ether[11] & 0xe0 = 0x20")
         twice = flights.Flight(flight.links, {"A": [f for at, data in flight.taps["A"] for f in ((at, data), (at + 2000, data))], "B": []})
-        self.asked("frames recorded twice", Judged(self.folder, twice).check(), "network A hold its frames twice?", "editcap")
+        count = f"{len(flight.taps['A'])} of {2 * len(flight.taps['A'])} frames"
+        self.asked("frames recorded twice", Judged(self.folder, twice).check(), "network A hold frames twice?", count, "editcap")
         for ppm, faster, lost in ((50, "B", False), (-50, "A", False), (50, "B", True)):
             moved = [(at + at * ppm // 10**6, data) for at, data in flight.taps["B"]]
             last = {data[4:6]: at for at, data in moved}

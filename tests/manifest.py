@@ -58,7 +58,7 @@ def file_of(path, data, hashed):
 def recording_of(path, data, hashed, known=True):
     """A recording's members. Of a run that met a fault nothing is known but its bytes."""
     members = {"path": path, "files": None, **file_of(path, data, hashed)}
-    members.update(dict.fromkeys(("frames", "end", "reason", "first", "first_utc", "last", "last_utc")))
+    members.update(dict.fromkeys(("frames", "end", "reason", "first", "first_utc", "last", "last_utc", "dropped")))
     if known:
         taken, ending = parse(data)
         end, count, *reason = ending.split()
@@ -391,7 +391,8 @@ class Manifest(AtADesk):
         recordings = [f" --a {reports.manifest['inputs']['a']['path']} ", f" --b {reports.manifest['inputs']['b']['path']} "]
         self.case("manifest: report: a finding's command has its recordings", "" if all(path in cut for cut in cuts for path in recordings) else f"{cuts}")
         page = reports.report(None).stdout.decode("ascii")
-        self.case("manifest: report: a page without one", "" if TIES[None] in page and 'class="of"' not in page else "it doesn't say so")
+        untied = f'<p class="of">table <b>{html.escape(self.desk.paths["config"])}</b>: nothing ties it to the ledger, since no manifest of the run was given</p>'
+        self.case("manifest: report: a page without one", "" if TIES[None] in page and untied in page else "it doesn't say so")
         strange = {**reports.manifest, "command": ["<&\"'>", "f\u00fcr @\n"], "fault": "watch 7 Memory"}
         page = reports.report(reports.put(strange)).stdout.decode("ascii")
         self.case("manifest: report: arguments of any characters", "" if shown(strange) in page else f"{re.findall('<p class=.of.*?</p>', page)}")

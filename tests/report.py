@@ -441,6 +441,65 @@ class Report(Case):
             fault = difference(report(table, changed, "-v"), FAULT, f"afdxmon: report 2 Contradiction at {at} {word}\n{changed}: {told}", b"")
             self.case(f"report: {name}", fault)
 
+    def test_edited_tables(self):
+        """Tables that were edited after the run, without a manifest: refused where no sizes of frames give the ledger's verdicts, and taken
+        where a run with the edited table would write the same ledger."""
+        one = {"id": 10, "name": "link_0", "bag_ms": 4, "jitter_us": 0, "smax": 100, "integrity": True, "redundancy": True, "skew_us": 1000}
+        taps = {"A": [(2 * i * STEP, frame(10, 96, i % 255 + 1)) for i in range(200)], "B": []}
+        for name, run_of, told_of, words in (
+            ("BAG 4 ms for 2 ms", {"bag_ms": 2, "jitter_us": 100}, {"bag_ms": 4, "jitter_us": 100}, "within an account that can't hold it, by"),
+            ("BAG 1 ms for 2 ms", {"bag_ms": 2, "jitter_us": 500}, {"bag_ms": 1, "jitter_us": 500}, None),
+            ("BAG 2 ms for 4 ms", {"bag_ms": 4}, {"bag_ms": 2}, "in excess of an account that holds it, by"),
+            ("jitter 4 ms for none", {"bag_ms": 4}, {"bag_ms": 4, "jitter_us": 4000}, "in excess of an account that holds it, by"),
+            ("Smax 64 for 100", {"bag_ms": 2}, {"bag_ms": 2, "smax": 64}, "that isn't toolong, and longer than Smax in"),
+            ("Smax 150 for 100", {"bag_ms": 2}, {"bag_ms": 2, "smax": 150}, None),
+        ):
+            _, ledger, _ = ledger_in(self.folder, table_of([{**one, **run_of}]), taps)
+            with open(ledger, encoding="ascii") as file:
+                rows = [line.split() for line in file if line[0].isdigit()]
+            edited = os.path.join(self.folder, "edited.toml")
+            with open(edited, "w", encoding="ascii") as out:
+                out.write(table_of([{**one, **told_of}]))
+            table, bag = {**one, **told_of}, told_of["bag_ms"] * 10**6
+            most, last, at = None, 0, None
+            for number, row in enumerate(rows, 2):
+                stamp, size = int(row[0]), max(64, int(row[9]) + 4 if row[9] != "-" else 64)
+                cap = table["smax"] * (bag + table["jitter_us"] * 1000)
+                most = cap if most is None else min(cap, most + table["smax"] * (stamp - last))
+                last = stamp
+                if words and (size > table["smax"] if "Smax" in name else row[6] == "excess" if "excess" in words else size * bag > most):
+                    at = number
+                    break
+                most -= size * bag
+            told = f"{ledger}: line {at}: link 10 link_0 has a frame {words} the table {edited}: is it the table of the run?"
+            ran = report(edited, ledger, "-v", "--json")
+            fault = difference(ran, FAULT, f"afdxmon: report 2 Contradiction at {at} verdict\n{told}", b"") if words else "" if ran.returncode == SUCCESS else f"{ran.stderr!r}"
+            self.case(f"report: a table edited after the run: {name}", fault)
+
+    def test_same_lines(self):
+        """A table edited after the run that gives each line as it is, is taken."""
+        taken = 0
+        for seed in range(40):
+            chance = random.Random(1700 + seed)
+            links = links_of(chance, 4)
+            taps = traffic(chance, links, 1, 0.02 if seed % 2 else 0)
+            _, ledger, _ = ledger_in(self.folder, table_of(links), taps)
+            with open(ledger, encoding="ascii") as file:
+                before = file.read()
+            kept = os.path.join(self.folder, "kept.ledger")
+            shutil.copy(ledger, kept)
+            edited = [dict(link, **{key: chance.choice(values)}) for link in links
+                      for key, values in [chance.choice((("bag_ms", (1, 2, 4, 8)), ("jitter_us", (0, 100, 500, 5000)), ("smax", (100, 200, 400))))]]
+            table, ledger, _ = ledger_in(self.folder, table_of(edited), taps)
+            with open(ledger, encoding="ascii") as file:
+                if file.read() != before:
+                    continue
+            taken += 1
+            ran = report(table, kept, "--json")
+            if ran.returncode != SUCCESS:
+                self.case(f"report: an edited table that gives the same ledger, seed {seed}", f"{ran.stderr!r}")
+        self.case("report: edited tables that give the same ledger are taken", "" if taken >= 4 else f"only {taken} of 40 give it")
+
     def test_marked_where_it_was(self):
         """The timeline and the strips mark what happened where it was, and say times of a long flight in UTC too."""
         taps = long_taps()
@@ -535,8 +594,8 @@ class Report(Case):
         links = [dict(l, redundancy=True, integrity=True) for l in links_of(chance, 5)]
         table, ledger, _ = ledger_in(self.folder, table_of(links), traffic(chance, links, 2, 0.02))
         part = os.path.join(self.folder, "part.ledger")
-        for name, words in (("a time", ["--from", "+0.5", "--to", "+1.25"]), ("a link", ["--link", "link_1,10"]), ("a network", ["--network", "B"]),
-                            ("a minute", ["--from", "08:00:00", "--to", "08:00:00.7"]), ("all of these", ["--from", "+0.5", "--to", "+1", "--link", "link_*", "--network", "A"]),
+        for name, words in (("a time", ["--from", "+0.5", "--to", "+1.25s"]), ("a link", ["--link", "link_1,10"]), ("a network", ["--network", "B"]),
+                            ("a minute", ["--from", "08:00", "--to", "08:00:00.7"]), ("all of these", ["--from", "+0.5s", "--to", "+1", "--link", "link_*", "--network", "A"]),
                             ("nothing", ["--from", "+100"])):
             cut = run(["cut", "--config", table, "--ledger", ledger, *words, "--ledger-only", "-o", part], stdout=subprocess.PIPE)
             with open(part, encoding="ascii") as text:

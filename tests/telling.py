@@ -187,6 +187,8 @@ LINE = "1000000000000000000 A 0 5 1 regular within first {} - 00\n"
 
 # A copy 1500 us after its delivery, counts of link 5, and the same of another link and of a filter.
 LATE_COPY = LINE.format("deliver") + LINE.format("copy").replace("A 0", "B 0").replace("1000000000000000000", "1000000000001500000")
+# Four frames at once: their sizes, 64 bytes at least, are more together than Smax, 200.
+AT_ONCE = "".join(LINE.format("deliver").replace("A 0 5 1", f"A {k} 5 {k + 1}").replace("first", "next" if k else "first") for k in range(4))
 COUNTED = "link {} frames 1 toolong 0 excess 0 out 0 copy 0 delivered 1\n"
 # What a ledger of another table has after its head, at which line and as what it contradicts this one, and how.
 OF_OTHER_TABLES = (
@@ -194,6 +196,9 @@ OF_OTHER_TABLES = (
     (LINE.format("-").replace("regular within first", "unconfigured - -"), "2 link", "link 5 brake is unconfigured there, and the table {} has it"),
     (LINE.format("both"), "2 link", "link 5 brake has other integrity checking or redundancy management in the table {}"),
     (LATE_COPY, "3 copy", "link 5 brake has a copy 1500 us after its delivery, and SkewMax 1000 us in the table {}"),
+    (LINE.format("-").replace("within first", "excess -"), "2 verdict", "link 5 brake has a frame in excess of an account that holds it, by the table {}"),
+    (AT_ONCE, "5 verdict", "link 5 brake has a frame within an account that can't hold it, by the table {}"),
+    (LINE.format("deliver").replace("- 00", "197 01"), "2 verdict", "link 5 brake has a frame that isn't toolong, and longer than Smax in the table {}"),
     (LINE.format("deliver") + COUNTED.format("5 flaps"), "3 counts", "link 5 brake of the table {} is flaps there"),
     (LINE.format("deliver") + COUNTED.format("4 flaps"), "3 counts", "link 4 isn't in the table {}"),
     (LINE.format("deliver") + "filter 0 accepted 0\n", "3 counts", "link 5 brake of the table {} has no counts there"),

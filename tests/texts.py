@@ -72,12 +72,15 @@ ADVICE = {
     "watch 4 Write manifest": "the manifest can't be written: is the disk full, or the pipe closed?",
     "watch 7": NO_MEMORY,
     "links 1 Constant": "--constant is a number of 32 bits with bits 24 and 25 set, as 0x03000000 or 50331648",
+    "transit 1 Unsound": "a question is open, so what was found may be wrong: the answer asks it",
+    "transit 8 Selection": "--routed needs identifiers 0 to 65535, as 301-305,42, or names of the table, as engine_*",
     "check 1 Unsound": "a run with these inputs would not be sound: the answer says why",
     "report 1 Ledger": "a line of no frame's form: was the ledger changed?",
     "report 1 Ledger at 1 head": "no ledger of version 2: afdxmon watch writes one by --ledger",
     "report 2 Contradiction at 2 link": "a link that the table doesn't have: is it the table of the run?",
     "report 2 Contradiction at 2 copy": "a copy without its delivery before it: was the ledger or the table changed?",
     "report 2 Contradiction at 3 counts": "counts that its frames' lines don't give: was the ledger or the table changed?",
+    "report 2 Contradiction at 2 verdict": "a verdict that the table's BAG, jitter and Smax can't give: is it the table of the run?",
     "report 3 Read Ledger": "the ledger can't be read: is it a file or a pipe?",
     "report 5 Manifest at": "no manifest: afdxmon watch writes one by --manifest",
     "report 5 Manifest version": "a manifest of another version than 1",
@@ -156,6 +159,7 @@ ABOUT = {
     "links": "Prints a draft of the table of virtual links that recordings have",
     "report": "Writes an HTML page on what a ledger says, or its numbers",
     "check": "Tells whether a run of watch with these inputs would be sound",
+    "transit": "Tells what a switch did with the frames that went in",
 }
 # What each command's help says after the line of what it does.
 HELP = {
@@ -259,8 +263,8 @@ Frames are written whole, as recorded, in the ledger's order. A frame is selecte
 option from --link to --filters that is given. With --around the ledger is read twice: it has to be
 a file. Lines of a network whose recording isn't given are passed over. A TIME is
 '2027-01-15T08:00:12.119534506Z', the '08:00:12.1195' or '08:00' of the recording's day in UTC,
-'+12.1195' or '+12s' after the ledger's first frame, or nanoseconds since 1970. A --to earlier in the day than
---from is one of the next day. '-' is standard input, or standard output.
+'+12.1195' or '+12s' after the ledger's first frame, or nanoseconds since 1970. A --to earlier in
+the day than --from is one of the next day. '-' is standard input, or standard output.
 
 Example: keep the frames that policing discarded
   afdxmon cut --ledger flight.ledger --a a.pcap --b b.pcap --verdict excess -o excess.pcap
@@ -321,14 +325,15 @@ Example: a page on a run, and one that compares it with the flight before
 Usage: afdxmon check [OPTIONS] --config <FILE>
 
 Options:
-      --config <FILE>  The table of virtual links, a TOML document
-      --filter <FILE>  The filter in the numeric form, as `afdxmon asm` prints it
-      --a <FILE>       The recording of network A, pcap or pcapng files, or @LIST of paths
-      --b <FILE>       The recording of network B, pcap or pcapng files, or @LIST of paths
-      --whole          Read the recordings to their ends, not their first 1000000 frames
-      --json           Write the answer as JSON in place of text
-  -v, --verbose        Tell standard error, whatever it is, what a terminal is told but progress
-  -h, --help           Print help
+      --config <FILE>    The table of virtual links, a TOML document
+      --filter <FILE>    The filter in the numeric form, as `afdxmon asm` prints it
+      --a <FILE>         The recording of network A, pcap or pcapng files, or @LIST of paths
+      --b <FILE>         The recording of network B, pcap or pcapng files, or @LIST of paths
+      --expected <LIST>  Kinds of other traffic that the networks are to have, as 'ptp,lldp,0x88cc'
+      --whole            Read the recordings to their ends, not their first 1000000 frames
+      --json             Write the answer as JSON in place of text
+  -v, --verbose          Tell standard error, whatever it is, what a terminal is told but progress
+  -h, --help             Print help
 
 The answer goes to standard output; nothing else is written. Of each recording the first 1000000
 frames are read, by --whole all. The exit status is 0 where a run would be sound, else 1. '-' is
@@ -336,6 +341,35 @@ standard input.
 
 Example: whether a table, a filter and two recordings belong together
   afdxmon check --config flight.toml --filter flight.filter --a a.pcap --b b.pcap
+""",
+    "transit": r"""
+Usage: afdxmon transit [OPTIONS] --config <FILE> --before <FILE>... --after <FILE>...
+
+Options:
+      --config <FILE>          The table of virtual links, a TOML document
+      --before <FILE>          The recording at the port in, pcap or pcapng files, or @LIST of paths
+      --after <FILE>           The recording at the port out, by the same clock
+      --network <A|B>          The network, for the ledger's second line
+      --within-us <N>          The longest transit that is looked for [default: 10000]
+      --early-us <N>           How far clocks and stamps may be off [default: 1000]
+      --bound-us <N>           Tell frames whose transit was longer
+      --routed <LIST>          The links that are routed to the port out, as '301-305,42' or 'engine_*'
+      --shift-ns <N>           Add this to each timestamp of --after [default: 0]
+      --police <bytes|frames>  How the switch polices: by a frame's bytes, or each as its link's Smax [default: bytes]
+      --grace-us <N>           How far the switch's and the taps' times between frames may differ [default: 1]
+      --late-us <N>            Take timestamps out of order by N microseconds, in place of the table's late_us
+      --ledger <FILE>          The ledger of transits to write
+      --json                   Write the answer as JSON in place of text
+  -v, --verbose                Tell standard error, whatever it is, what a terminal is told but progress
+  -h, --help                   Print help
+
+Both recordings are made by one clock. The answer goes to standard output; the ledger has a line for each
+frame that went in, and for each that came out and never went in. The exit status is 1 where a question
+is open, as whether the clocks are apart. '-' is standard input, or standard output.
+
+Example: what the switch did, and each frame that it dropped
+  afdxmon transit --config flight.toml --before in.pcap --after out.pcap --ledger transit.ledger
+  grep ' dropped ' transit.ledger
 """,
 }
 PROGRAM_HELP = (
@@ -363,7 +397,7 @@ MISUSE = {
     "Unfiltered": "--capture needs --filter, which says what frames it is to have",
     "Uncaptured": "--pcapng needs --capture: it says how the capture is written",
     "NoLateness": "--late-us is a number of microseconds, 0 to 1000000, and of capture and debug also any",
-    "Unordered": "--late-us any is for capture and debug: watch puts the frames of both networks in order",
+    "Unordered": "--late-us any is for capture and debug: watch and transit put the frames of both recordings in order",
     "NoPackets": "--pcapng says how packets are written, and --ledger-only leaves them out",
 }
 

@@ -29,8 +29,8 @@ def data_of(chance, number, sequence, size=150):
 
 def table_text(links):
     keys = ("id", "name", "bag_ms", "jitter_us", "smax", "integrity", "redundancy", "skew_us")
-    text = {True: "true", False: "false"}
-    lines = [f"{key} = {text.get(one[key], one[key]) if key != 'name' else repr(one[key])}" for one in links for key in keys]
+    shown = {bool: lambda value: str(value).lower(), str: repr, int: str}
+    lines = [f"{key} = {shown[type(one[key])](one[key])}" for one in links for key in keys]
     blocks = ["\n".join(lines[i : i + len(keys)]) for i in range(0, len(lines), len(keys))]
     return CONSTANT + "".join(f"\n[[link]]\n{block}\n" for block in blocks).replace("'", '"')
 

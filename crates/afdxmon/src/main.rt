@@ -13,7 +13,7 @@ use command_line::{
     has_standard_among, read_arguments,
 };
 use commands::{
-    arguments, asm, capture, check, cut, debug, links, refuse_streams, report, summarise,
+    arguments, asm, capture, check, cut, debug, links, refuse_streams, report, summarise, transit,
 };
 use messages::{CommandEnd, STANDARD_AMONG, tell};
 use std::io::{ErrorKind, IsTerminal};
@@ -22,7 +22,7 @@ use std::sync::Wait;
 use std::sync::atomic::{AtomicBool, Ordering};
 use std::thread::Threads;
 use std::{env, io};
-use tap_inputs::{NO_RUN, Outcome, Taps, print, status_of, takes_messages};
+use tap_inputs::{NO_RUN, Outcome, Taps, print, status_of, takes_messages, tell_dropped};
 use watcher::Reporter;
 use watching::watch;
 
@@ -95,6 +95,7 @@ fn run<R: Threads + Wait + Sync>(
         Invocation::Links(given) => links(rt, &given, taps, reporter.full),
         Invocation::Report(given) => report(rt, &given, taps),
         Invocation::Check(given) => check(rt, &given, taps),
+        Invocation::Transit(given) => transit(rt, &given, taps),
     }
 }
 
@@ -107,6 +108,7 @@ fn tell_end(rt: &HostRuntime, asked: Invocation<'_>, taps: &Taps, outcome: &Outc
     };
     let _ = tell(rt, taps.named(asked, outcome.at), known);
     let _ = outcome.skipped.tell(rt, &outcome.exit);
+    let _ = tell_dropped(rt, outcome);
 }
 
 /// Carries out what a command line asks for, and tells standard error how it ended: all of it, where that is

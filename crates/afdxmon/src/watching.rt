@@ -145,6 +145,7 @@ fn settle<'p>(
         exit,
         worst,
         skipped: Skipped::two(skipped_in(&a), skipped_in(&b)),
+        dropped: [0, 0],
         cause: capture_fails
             .or(ledger_fails)
             .map(|error| Cause::System(error)),
@@ -299,5 +300,8 @@ pub fn watch<R: Threads + Wait + Sync>(
         Some(pauses) => watch_pauses(rt, threads, &analysis, &pauses)?,
         None => watch_networks(rt, threads, &analysis, None)?,
     };
-    Ok(ended)
+    Ok(Outcome {
+        dropped: taps.dropped(rt),
+        ..ended
+    })
 }

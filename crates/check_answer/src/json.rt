@@ -2,6 +2,7 @@
 
 use crate::answer::{Answer, FilterAnswer, TapAnswer};
 use crate::faults::{ToldFault, told_faults};
+use crate::lines::kind_word;
 use crate::verdict::verdict_of;
 use crate::words::{QuestionText, Utc, format_words, question_word};
 use afdx_frame::{Network, VlId};
@@ -11,7 +12,7 @@ use serde::Serialize;
 use serde_json::Error;
 use std::alloc::{AllocError, Global};
 use std::fmt::Write;
-use traffic_survey::{Overlap, Question};
+use traffic_survey::{Kind, Overlap, Question};
 
 #[derive(Drop, Serialize)]
 struct JsonFault {
@@ -75,6 +76,15 @@ struct JsonUnlisted {
     frames: u32,
 }
 
+/// Foreign frames of an EtherType. 0: they have a length in its place.
+#[derive(Drop, Serialize)]
+struct JsonKind {
+    ethertype: Option<u16>,
+    kind: Option<&'static str>,
+    frames: u64,
+    expected: bool,
+}
+
 #[derive(Drop, Serialize)]
 struct JsonDifference {
     ahead: &'static str,
@@ -104,6 +114,7 @@ struct JsonAnswer<'a> {
     questions: Vec<JsonQuestion>,
     links: Vec<JsonLink<'a>>,
     unlisted: Vec<JsonUnlisted>,
+    foreign: Vec<JsonKind>,
 }
 
 /// A fault's line, without what begins each.
@@ -186,11 +197,19 @@ fn tap_if<'a>(
 
 fn difference_of(alloc: Global, question: &Question) -> Result<Option<JsonDifference>, AllocError> {
     match question {
-        Question::Clocks(Some(difference)) => Ok(Some(JsonDifference {
-            ahead: difference.ahead.letter(),
-            nanoseconds: decimal(alloc, difference.nanos)?,
-            links: difference.links as u64,
-            of: difference.of as u64,
+        Question::Clocks(Some(difference)) | Question::Rounds { difference, .. } => {
+            Ok(Some(JsonDifference {
+                ahead: difference.ahead.letter(),
+                nanoseconds: decimal(alloc, difference.nanos)?,
+                links: difference.links as u64,
+                of: difference.of as u64,
+            }))
+        }
+        Question::Stepped(step) => Ok(Some(JsonDifference {
+            ahead: step.ahead.letter(),
+            nanoseconds: decimal(alloc, step.nanos)?,
+            links: step.links as u64,
+            of: step.of as u64,
         })),
         _ => Ok(None),
     }
@@ -233,6 +252,38 @@ fn unlisted_of(alloc: Global, answer: &Answer<'_>) -> Result<Vec<JsonUnlisted>, 
         if frames > 0 {
             list.push(JsonUnlisted { id, frames })?;
         }
+    }
+    Ok(list)
+}
+
+fn kind_of(kind: &Kind, expected: bool) -> JsonKind {
+    JsonKind {
+        ethertype: Some(kind.ethertype),
+        kind: kind_word(kind.ethertype),
+        frames: kind.frames,
+        expected,
+    }
+}
+
+/// The foreign frames by what they carry: those that are expected first.
+fn foreign_of(alloc: Global, answer: &Answer<'_>) -> Result<Vec<JsonKind>, AllocError> {
+    let mut list = Vec::new(alloc);
+    let Some(kinds) = answer.inputs.kinds() else {
+        return Ok(list);
+    };
+    for kind in kinds.expected() {
+        list.push(kind_of(kind, true))?;
+    }
+    for kind in kinds.kinds() {
+        list.push(kind_of(kind, false))?;
+    }
+    if kinds.others() > 0 {
+        list.push(JsonKind {
+            ethertype: None,
+            kind: None,
+            frames: kinds.others(),
+            expected: false,
+        })?;
     }
     Ok(list)
 }
@@ -307,6 +358,7 @@ fn answer_of<'a>(alloc: Global, answer: &Answer<'a>) -> Result<JsonAnswer<'a>, A
         questions: questions_of(alloc, answer.questions)?,
         links: links_of(alloc, answer)?,
         unlisted: unlisted_of(alloc, answer)?,
+        foreign: foreign_of(alloc, answer)?,
     })
 }
 

@@ -87,7 +87,7 @@ pub fn push_unlisted(out: &mut String, inputs: &Inputs<'_>) -> Result<(), AllocE
 }
 
 /// The protocol of an EtherType. None: it is told as a number.
-fn kind_word(ethertype: u16) -> Option<&'static str> {
+pub(crate) fn kind_word(ethertype: u16) -> Option<&'static str> {
     match ethertype {
         0 => Some("without an EtherType"),
         0x0800 => Some("IPv4"),
@@ -100,6 +100,20 @@ fn kind_word(ethertype: u16) -> Option<&'static str> {
     }
 }
 
+/// Writes kinds with their frames, and how many frames there are of further ones.
+fn push_kinds(out: &mut String, kinds: &[Kind], others: u64) -> Result<(), AllocError> {
+    for (index, kind) in kinds.iter().enumerate() {
+        if index > 0 {
+            out.push_str(",")?;
+        }
+        push_kind(out, *kind)?;
+    }
+    if others > 0 {
+        write!(out, " and {others} more")?;
+    }
+    out.push_str("\n")
+}
+
 fn push_kind(out: &mut String, kind: Kind) -> Result<(), AllocError> {
     let Kind { ethertype, frames } = kind;
     match kind_word(ethertype) {
@@ -108,11 +122,16 @@ fn push_kind(out: &mut String, kind: Kind) -> Result<(), AllocError> {
     }
 }
 
-/// A note of the foreign frames, by what they carry.
+/// Notes of the foreign frames by what they carry, and of those that are expected.
 pub fn push_foreign(out: &mut String, inputs: &Inputs<'_>) -> Result<(), AllocError> {
     let Some(kinds) = inputs.kinds() else {
         return Ok(());
     };
+    if !kinds.expected().is_empty() {
+        let frames = Counted(kinds.expected_frames(), "frame");
+        write!(out, "note: expected traffic, {frames}:")?;
+        push_kinds(out, kinds.expected(), 0)?;
+    }
     let others = kinds.others();
     let count = kinds
         .kinds()
@@ -123,14 +142,5 @@ pub fn push_foreign(out: &mut String, inputs: &Inputs<'_>) -> Result<(), AllocEr
     }
     let frames = Counted(count, "frame");
     write!(out, "note: foreign traffic, {frames}:")?;
-    for (index, kind) in kinds.kinds().iter().enumerate() {
-        if index > 0 {
-            out.push_str(",")?;
-        }
-        push_kind(out, *kind)?;
-    }
-    if others > 0 {
-        write!(out, " and {others} more")?;
-    }
-    out.push_str("\n")
+    push_kinds(out, kinds.kinds(), others)
 }

@@ -5,7 +5,7 @@ use jiff::Timestamp;
 use pcap_io::{ByteOrder, Precision};
 use std::fmt;
 use std::fmt::{Display, Formatter};
-use traffic_survey::{Constant, Crossing, Difference, Drift, Format, Question, Wiring};
+use traffic_survey::{Affected, Constant, Difference, Drift, Format, Question, Step, Wiring};
 use vl_config::ConfigFault;
 
 /// The name of a fault of the table, as its line has it.
@@ -114,11 +114,21 @@ pub fn question_word(question: &Question) -> &'static str {
             network: Network::B,
             ..
         } => "twice_b",
+        Question::Doubled(doubled) => match doubled.network {
+            Network::A => "twice_a",
+            Network::B => "twice_b",
+        },
         Question::Crossed(crossing) => match crossing.network {
             Network::A => "crossed_a",
             Network::B => "crossed_b",
         },
+        Question::Unlike(_) => "unlike",
+        Question::Stepped(step) => match step.ahead {
+            Network::A => "step_a",
+            Network::B => "step_b",
+        },
         Question::Drift(_) => "drift",
+        Question::Rounds { .. } => "rounds",
         Question::Clocks(_) => "clocks",
     }
 }
@@ -161,9 +171,28 @@ const ONCE: &str = "\
 hold its frames twice? Most links' numbers come again at once. \
 Record each frame once, or take off the second: editcap -F nsecpcap -d in.pcap out.pcap";
 
+const DOUBLED: &str = "\
+frames there have all bytes of the one before, less than half of a BAG later";
+
+const TAKE_OFF: &str = "\
+Record each frame once (a mirror port brings both ways), or take off the second: \
+editcap -F nsecpcap -d in.pcap out.pcap";
+
 const DRIFT: &str = "\
 do the clocks of the taps drift? Synchronise them (PTP), or judge short parts: \
 editcap -F nsecpcap -i 60 in.pcap out.pcap makes files of a minute";
+
+const PARTS: &str = "\
+Judge the parts before and after by themselves (editcap -B, -A), or set the later one right by editcap -t";
+
+const UNLIKE: &str = "\
+copies have other bytes than their frames, source addresses aside";
+
+const CHANGED: &str = "\
+Are the clocks apart by a round of 255 numbers, or does something on the way change frames?";
+
+const ROUNDS: &str = "\
+are the clocks of the taps apart by rounds of 255 numbers? Most frames have a copy, and";
 
 const CLOCKS: &str = "\
 are the clocks of the taps apart? Under half of the frames have a copy within SkewMax.";
@@ -212,6 +241,32 @@ impl Display for DifferencePart {
     }
 }
 
+/// When a clock was set, as a question.
+#[derive(Clone, Copy)]
+struct StepPart(Step);
+
+impl Display for StepPart {
+    fn fmt<W: fmt::Write>(&self, f: &mut Formatter<W>) -> fmt::Result {
+        let step = self.0;
+        let (ahead, other) = (step.ahead.letter(), step.ahead.other().letter());
+        let (length, links, of) = (Seconds(step.nanos), step.links, step.of);
+        let (from, to) = (Utc(step.after.0), Utc(step.before.0));
+        if step.is_silence {
+            write!(
+                f,
+                "was the clock of network {ahead} set forward while it recorded? The network is silent for \
+                 {length}, from {from} to {to}, and no number is missing, say {links} of {of} links. {PARTS}"
+            )
+        } else {
+            write!(
+                f,
+                "was the clock of network {ahead} set forward by {length} while it recorded, or that of \
+                 {other} back? Between {from} and {to}, say {links} of {of} links. {PARTS}"
+            )
+        }
+    }
+}
+
 /// How fast the clocks move apart, after the question.
 #[derive(Clone, Copy)]
 struct DriftPart(Drift);
@@ -228,26 +283,55 @@ impl Display for DriftPart {
     }
 }
 
+/// The links and the time of the frames that a question is of.
+#[derive(Clone, Copy)]
+struct WherePart(Affected);
+
+impl Display for WherePart {
+    fn fmt<W: fmt::Write>(&self, f: &mut Formatter<W>) -> fmt::Result {
+        let affected = self.0;
+        let link = affected.link.0;
+        let (from, to) = (Utc(affected.first.0), Utc(affected.last.0));
+        write!(f, ", of link {link}")?;
+        if affected.links > 1 {
+            let more = affected.links.saturating_sub(1);
+            write!(f, " and {more} more")?;
+        }
+        write!(f, ", from {from} to {to}")
+    }
+}
+
 /// Which frames of a network are of the other one, as a question.
 #[derive(Clone, Copy)]
-struct CrossedPart(Crossing);
+struct CrossedPart(Affected);
 
 impl Display for CrossedPart {
     fn fmt<W: fmt::Write>(&self, f: &mut Formatter<W>) -> fmt::Result {
         let crossing = self.0;
         let (on, other) = (crossing.network.letter(), crossing.network.other().letter());
-        let (frames, of, link) = (crossing.frames, crossing.of, crossing.link.0);
-        let (from, to) = (Utc(crossing.first.0), Utc(crossing.last.0));
+        let (frames, of, place) = (crossing.frames, crossing.of, WherePart(crossing));
         write!(
             f,
             "were cables of network {on} swapped? {frames} of {of} frames there have source addresses of \
-             network {other}, of link {link}"
-        )?;
-        if crossing.links > 1 {
-            let more = crossing.links.saturating_sub(1);
-            write!(f, " and {more} more")?;
-        }
-        write!(f, ", from {from} to {to}")
+             network {other}{place}"
+        )
+    }
+}
+
+/// Which frames of a network stand twice in its recording, as a question.
+#[derive(Clone, Copy)]
+struct DoubledPart(Affected);
+
+impl Display for DoubledPart {
+    fn fmt<W: fmt::Write>(&self, f: &mut Formatter<W>) -> fmt::Result {
+        let doubled = self.0;
+        let (network, place) = (doubled.network.letter(), WherePart(doubled));
+        let (frames, of) = (doubled.frames, doubled.of);
+        write!(
+            f,
+            "does the recording of network {network} hold frames twice? {frames} of {of} {DOUBLED}{place}. \
+             {TAKE_OFF}"
+        )
     }
 }
 
@@ -291,6 +375,61 @@ impl Display for RecorderPart<'_> {
     }
 }
 
+/// The words on some frames: of the other network, recorded twice, or other ones than their copies.
+#[derive(Clone, Copy)]
+struct FramesPart<'a>(&'a Question);
+
+impl Display for FramesPart<'_> {
+    fn fmt<W: fmt::Write>(&self, f: &mut Formatter<W>) -> fmt::Result {
+        match *self.0 {
+            Question::Crossed(crossing) => {
+                let part = CrossedPart(crossing);
+                write!(f, "{part}")
+            }
+            Question::Doubled(doubled) => {
+                let part = DoubledPart(doubled);
+                write!(f, "{part}")
+            }
+            Question::Unlike(unlike) => {
+                let (frames, of, place) = (unlike.frames, unlike.of, WherePart(unlike));
+                write!(
+                    f,
+                    "do both networks carry the same frames? {frames} of {of} {UNLIKE}{place}. {CHANGED}"
+                )
+            }
+            _ => Ok(()),
+        }
+    }
+}
+
+/// The words on the clocks.
+#[derive(Clone, Copy)]
+struct ClocksPart<'a>(&'a Question);
+
+impl Display for ClocksPart<'_> {
+    fn fmt<W: fmt::Write>(&self, f: &mut Formatter<W>) -> fmt::Result {
+        match *self.0 {
+            Question::Stepped(step) => {
+                let part = StepPart(step);
+                write!(f, "{part}")
+            }
+            Question::Drift(drift) => {
+                let part = DriftPart(drift);
+                write!(f, "{DRIFT}{part}")
+            }
+            Question::Rounds { lonely, difference } => {
+                let (links, part) = (Counted(lonely, "link"), DifferencePart(Some(difference)));
+                write!(f, "{ROUNDS} {links} have none.{part}")
+            }
+            Question::Clocks(difference) => {
+                let part = DifferencePart(difference);
+                write!(f, "{CLOCKS}{part}")
+            }
+            _ => Ok(()),
+        }
+    }
+}
+
 impl Display for QuestionText<'_> {
     fn fmt<W: fmt::Write>(&self, f: &mut Formatter<W>) -> fmt::Result {
         match *self.0 {
@@ -320,21 +459,20 @@ impl Display for QuestionText<'_> {
                     "{OTHER_TABLE} {frames} of {of} frames are of links that it lacks"
                 )
             }
-            Question::Crossed(crossing) => {
-                let part = CrossedPart(crossing);
-                write!(f, "{part}")
-            }
             Question::Cut { .. } | Question::Twice { .. } | Question::Tagged { .. } => {
                 let part = RecorderPart(self.0);
                 write!(f, "{part}")
             }
-            Question::Drift(drift) => {
-                let part = DriftPart(drift);
-                write!(f, "{DRIFT}{part}")
+            Question::Crossed(_) | Question::Doubled(_) | Question::Unlike(_) => {
+                let part = FramesPart(self.0);
+                write!(f, "{part}")
             }
-            Question::Clocks(difference) => {
-                let part = DifferencePart(difference);
-                write!(f, "{CLOCKS}{part}")
+            Question::Stepped(_)
+            | Question::Drift(_)
+            | Question::Rounds { .. }
+            | Question::Clocks(_) => {
+                let part = ClocksPart(self.0);
+                write!(f, "{part}")
             }
         }
     }

@@ -34,6 +34,10 @@ has_clock_bytes text = list_all is_clock_byte text
 abbrev pub has_colons : Text → Bool
 has_colons text = (nat_le 8 (length text) && (slice_index text 2 == 58)) && (slice_index text 5 == 58)
 
+-- the length of HH:MM, and its colon
+abbrev pub is_of_minutes : Text → Bool
+is_of_minutes text = (length text == 5) && (slice_index text 2 == 58)
+
 -- a Z stands last
 abbrev pub is_utc : Text → Bool
 is_utc text = nat_lt 0 (length text) && (slice_index text (length text - 1) == 90)
@@ -85,10 +89,6 @@ decimal_in places text =
     else sum_in places (length (after_first is_point text)) (digits_in (before_first is_point text)) (digits_in (after_first is_point text)))
     else option_map (λ n. n * 10 ^ places) (digits_in text)
 
--- a plus stands first, and seconds after it
-abbrev pub since_in : Text → Option ℕ
-since_in text = if has is_plus text && bytes_eq (before_first is_plus text) [] then decimal_in 9 (after_first is_plus text) else None
-
 -- what stands before the first such letter, if this stands after it
 abbrev pub number_before : (ℕ → Bool) → Text → Text → Option Text
 number_before letter rest text = if has letter text && bytes_eq (after_first letter text) rest then Some (before_first letter text) else None
@@ -103,11 +103,23 @@ span_by None None None = None
 abbrev pub span_in : Text → Option ℕ
 span_in text = span_by (number_before is_m (codes "s") text) (number_before is_u (codes "s") text) (number_before is_s [] text)
 
--- Digits alone are nanoseconds since 1970; a clock's text is a time of day; a date and time is in UTC; a plus and seconds are a time since a
--- beginning.
+abbrev pub span_or_seconds : Option ℕ → Text → Option ℕ
+span_or_seconds (Some n) text = Some n
+span_or_seconds None text = decimal_in 9 text
+
+-- a length of time, or seconds without a unit
+abbrev pub length_in : Text → Option ℕ
+length_in text = span_or_seconds (span_in text) text
+
+-- a plus stands first, and a length of time after it
+abbrev pub since_in : Text → Option ℕ
+since_in text = if has is_plus text && bytes_eq (before_first is_plus text) [] then length_in (after_first is_plus text) else None
+
+-- Digits alone are nanoseconds since 1970; a clock's text is a time of day; a date and time is in UTC; a plus and a length are a time
+-- since a beginning.
 abbrev pub moment_in : Text → Option MomentText
 moment_in text =
     if is_digits text then option_map moment.At (option_and_then within (number_in 64 text))
-    else if has_colons text && has_clock_bytes text then option_map moment.OfDay (option_map clock_nanoseconds (result_ok (parse_time text)))
+    else if (has_colons text || is_of_minutes text) && has_clock_bytes text then option_map moment.OfDay (option_map clock_nanoseconds (result_ok (parse_time text)))
     else if is_utc text then option_map moment.At (option_and_then instant_in (result_ok (parse_timestamp text)))
     else option_map moment.Since (since_in text)

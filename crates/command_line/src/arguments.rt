@@ -1,5 +1,6 @@
 //! The command-line arguments: what a command line asks for, read from what clap found.
 
+use crate::kinds::are_kinds;
 use crate::lateness::{Lateness, read_lateness};
 use crate::misuse::Misuse;
 use crate::options::{named_command, whole_command};
@@ -26,6 +27,8 @@ pub enum Invocation<'a> {
     Report(ReportArguments<'a>),
     /// Say whether a run over two recordings would be sound.
     Check(CheckArguments<'a>),
+    /// Say what a switch did with the frames that went in.
+    Transit(TransitArguments<'a>),
 }
 
 /// The request of a command line.
@@ -207,8 +210,44 @@ pub struct CheckArguments<'a> {
     pub a: Option<&'a str>,
     /// The recording of network B.
     pub b: Option<&'a str>,
+    /// The kinds of other traffic that the networks are to have.
+    pub expected: Option<&'a str>,
     /// Are the recordings read to their ends?
     pub whole: bool,
+    /// Is the answer written as JSON in place of text?
+    pub json: bool,
+}
+
+/// The recordings at a port into a switch and at a port out of it, and how they are compared. Times are in
+/// nanoseconds. `-` is standard input or output.
+#[derive(Clone, Copy, PartialEq, Eq)]
+pub struct TransitArguments<'a> {
+    /// The table of virtual links, a TOML document.
+    pub config: &'a str,
+    /// The recording at the port in.
+    pub before: &'a str,
+    /// The recording at the port out, by the same clock.
+    pub after: &'a str,
+    /// The letter of the network, for the ledger and the answer.
+    pub network: Option<&'a str>,
+    /// The longest transit that is looked for.
+    pub within: u64,
+    /// How far clocks and stamps may be off.
+    pub early: u64,
+    /// The longest transit that isn't told as slow.
+    pub bound: Option<u64>,
+    /// The links that are routed to the port out.
+    pub routed: Option<&'a str>,
+    /// What is added to each timestamp of the recording at the port out.
+    pub shift: i64,
+    /// Does policing charge each frame its link's Smax, not its size?
+    pub by_frames: bool,
+    /// How far the switch's and the tap's times between two frames may differ.
+    pub grace: u32,
+    /// How late a timestamp may be, in place of what the table says.
+    pub late: Option<Lateness>,
+    /// The ledger of transits that is written, if one is.
+    pub ledger: Option<&'a str>,
     /// Is the answer written as JSON in place of text?
     pub json: bool,
 }
@@ -426,14 +465,70 @@ fn check_network(network: Option<&str>) -> Result<(), Misuse> {
 
 /// The options of `check`.
 fn check_arguments<'a>(given: &ArgMatches<'a>) -> Result<CheckArguments<'a>, Misuse> {
+    let expected = given.get_str("expected");
+    if expected.is_some_and(|text| !are_kinds(text)) {
+        return Err(Misuse::NoKind);
+    }
     Ok(CheckArguments {
         config: needed(given, "config")?,
         filter: given.get_str("filter"),
         a: given.get_str("a"),
         b: given.get_str("b"),
+        expected,
         whole: flag(given, "whole")?,
         json: flag(given, "json")?,
     })
+}
+
+/// Does policing charge each frame its link's Smax?
+fn is_by_frames(given: &ArgMatches<'_>) -> Result<bool, Misuse> {
+    match needed(given, "police")? {
+        "bytes" => Ok(false),
+        "frames" => Ok(true),
+        _ => Err(Misuse::NoPolicing),
+    }
+}
+
+/// The nanoseconds of an option in microseconds that clap has a default for.
+fn micros(given: &ArgMatches<'_>, name: &str) -> Result<u64, Misuse> {
+    let micros: u64 = given.get_one(name).ok_or(Misuse::Incomplete)?;
+    Ok(micros.saturating_mul(1000))
+}
+
+/// The grace of policing, in nanoseconds.
+fn grace(given: &ArgMatches<'_>) -> Result<u32, Misuse> {
+    Ok(u32::try_from(micros(given, "grace-us")?).unwrap_or(u32::MAX))
+}
+
+/// The longest transit that isn't slow, in nanoseconds, if it is given.
+fn bound(given: &ArgMatches<'_>) -> Option<u64> {
+    let micros: u64 = given.get_one("bound-us")?;
+    Some(micros.saturating_mul(1000))
+}
+
+/// The options of `transit`.
+fn transit_arguments<'a>(given: &ArgMatches<'a>) -> Result<TransitArguments<'a>, Misuse> {
+    let transit = TransitArguments {
+        config: needed(given, "config")?,
+        before: needed(given, "before")?,
+        after: needed(given, "after")?,
+        network: given.get_str("network"),
+        within: micros(given, "within-us")?,
+        early: micros(given, "early-us")?,
+        bound: bound(given),
+        routed: given.get_str("routed"),
+        shift: given.get_one("shift-ns").ok_or(Misuse::Incomplete)?,
+        by_frames: is_by_frames(given)?,
+        grace: grace(given)?,
+        late: lateness(given)?,
+        ledger: given.get_str("ledger"),
+        json: flag(given, "json")?,
+    };
+    check_network(transit.network)?;
+    if matches!(transit.late, Some(Lateness::Any)) {
+        return Err(Misuse::Unordered);
+    }
+    Ok(transit)
 }
 
 /// The request of a command of a name and its arguments.
@@ -447,6 +542,7 @@ fn invocation_of<'a>(name: &str, given: &ArgMatches<'a>) -> Result<Invocation<'a
         "links" => Ok(Invocation::Links(links_arguments(given)?)),
         "report" => Ok(Invocation::Report(report_arguments(given)?)),
         "check" => Ok(Invocation::Check(check_arguments(given)?)),
+        "transit" => Ok(Invocation::Transit(transit_arguments(given)?)),
         _ => Err(Misuse::Incomplete),
     }
 }

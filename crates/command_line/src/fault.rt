@@ -21,6 +21,10 @@ pub enum FileOption {
     Tap,
     A,
     B,
+    /// The recording at the port into a switch.
+    Before,
+    /// The recording at the port out of it.
+    After,
     Capture,
     Ledger,
     Source,
@@ -44,6 +48,8 @@ pub enum FileOption {
 #[derive(Clone, Copy, PartialEq, Eq)]
 pub enum SelectionOption {
     Link,
+    /// The links that are routed to a port.
+    Routed,
     Verdict,
     From,
     To,
@@ -61,6 +67,9 @@ pub enum Contradiction {
     Copy,
     /// A line of counts differs from what the frames' lines before it say.
     Counts,
+    /// A frame's line has a verdict that the BAG, the jitter and the Smax of its link in the table can't
+    /// give.
+    Verdict,
 }
 
 /// Why a manifest isn't that of a report's table and ledger.
@@ -119,6 +128,8 @@ pub enum Fault {
         filter: Option<u8>,
     },
     Watch(WatchFault),
+    /// A pass over the recordings at both ports of a switch, as network A that into it, as B that out of it.
+    Transit(WatchFault),
     /// The manifest of a run can't be written.
     Manifest,
     /// A session of the debugger that isn't begun: there is no memory for it.
@@ -147,4 +158,6 @@ pub enum Fault {
     Draft(ConfigFault),
     /// A run with what `check` was given would not be sound: its answer says why.
     Unsound,
+    /// What `transit` found leaves a question open: its answer says which.
+    Questioned,
 }

@@ -2,7 +2,7 @@
 
 use crate::arguments::{
     CaptureArguments, CutArguments, DebugArguments, FilterArgument, Invocation, ReportArguments,
-    WatchArguments,
+    TransitArguments, WatchArguments,
 };
 use crate::fault::{Fault, FileOption};
 
@@ -103,6 +103,16 @@ fn report_files(given: ReportArguments<'_>) -> [GivenFile<'_>; MAX_FILES] {
     ])
 }
 
+/// The files of `transit`.
+fn transit_files(given: TransitArguments<'_>) -> [GivenFile<'_>; MAX_FILES] {
+    only(&[
+        read(FileOption::Config, Some(given.config)),
+        read(FileOption::Before, Some(given.before)),
+        read(FileOption::After, Some(given.after)),
+        written(FileOption::Ledger, given.ledger),
+    ])
+}
+
 impl<'a> Invocation<'a> {
     /// The files that the arguments name: those that are read in the order in which they are looked at, and
     /// then those that are written. One that isn't given has no path.
@@ -126,6 +136,7 @@ impl<'a> Invocation<'a> {
                 read(FileOption::B, given.b),
             ]),
             Invocation::Report(given) => report_files(given),
+            Invocation::Transit(given) => transit_files(given),
             Invocation::Check(given) => only(&[
                 read(FileOption::Config, Some(given.config)),
                 read(FileOption::Filter, given.filter),
@@ -135,8 +146,9 @@ impl<'a> Invocation<'a> {
         }
     }
 
-    /// The file that a fault of an option is of: `A` is the one recording of `capture` and `debug` too,
-    /// `Capture` is what `capture` writes, and a filter's file is given by one of two options.
+    /// The file that a fault of an option is of: `A` is the one recording of `capture` and `debug` too, and
+    /// that into a switch, `B` that out of it; `Capture` is what `capture` writes, and a filter's file is
+    /// given by one of two options.
     pub fn file_of(&self, option: FileOption) -> Option<GivenFile<'a>> {
         self.files().iter().copied().find(|file| file.path.is_some()
             && stands_for(file.option, option))
@@ -180,7 +192,11 @@ impl<'a> Invocation<'a> {
 /// Is a file of one option that of a fault of the other?
 fn stands_for(own: FileOption, told: FileOption) -> bool {
     match told {
-        FileOption::A => matches!(own, FileOption::A | FileOption::Recording | FileOption::Tap),
+        FileOption::A => matches!(
+            own,
+            FileOption::A | FileOption::Recording | FileOption::Tap | FileOption::Before
+        ),
+        FileOption::B => matches!(own, FileOption::B | FileOption::After),
         FileOption::Capture => matches!(own, FileOption::Capture | FileOption::Output),
         FileOption::Filter | FileOption::Source => {
             matches!(own, FileOption::Filter | FileOption::Source)

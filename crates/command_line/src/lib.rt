@@ -8,6 +8,7 @@ mod exit;
 mod fault;
 mod files;
 mod icd;
+mod kinds;
 mod lateness;
 mod line;
 mod meaning;
@@ -25,20 +26,22 @@ mod words;
 
 pub use arguments::{
     CaptureArguments, CheckArguments, CommandLine, CutArguments, DebugArguments, FailOn,
-    FilterArgument, Invocation, LinksArguments, ReportArguments, WatchArguments, read_arguments,
+    FilterArgument, Invocation, LinksArguments, ReportArguments, TransitArguments, WatchArguments,
+    read_arguments,
 };
 pub use caret::{Caret, Place, caret_at, place_at};
 pub use exit::{Exit, FAILED, Found, TO_A_TERMINAL, USAGE};
 pub use fault::{Contradiction, Fault, FileOption, ManifestFault, ReportFault, SelectionOption};
 pub use files::{GivenFile, Inode, MAX_FILES, Named, NamedFile, is_standard, refuse_shared};
 pub use icd::IcdLines;
+pub use kinds::kinds_in;
 pub use lateness::{Lateness, MAX_LATE_MICROS};
 pub use line::fault_line;
 pub use meaning::{
     Advice, CompressedAdvice, EndingAdvice, HEAD_LEN, compressed_advice, header_advice,
     numeric_advice,
 };
-pub use message::{Note, SkippedNote, TapNote, reason_words};
+pub use message::{DroppedNote, Note, SkippedNote, TapNote, reason_words};
 pub use misuse::Misuse;
 pub use moment::{MomentText, read_moment, read_span};
 pub use options::version;

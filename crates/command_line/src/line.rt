@@ -168,6 +168,8 @@ pub(crate) fn file_name(file: FileOption) -> &'static str {
         FileOption::Tap => "--tap",
         FileOption::A => "--a",
         FileOption::B => "--b",
+        FileOption::Before => "--before",
+        FileOption::After => "--after",
         FileOption::Capture => "--capture",
         FileOption::Ledger => "--ledger",
         FileOption::Source => "--source",
@@ -226,6 +228,25 @@ fn watch_part(fault: WatchFault) -> Part {
         WatchFault::RingLost => plain("6 RingLost"),
         WatchFault::Memory => plain("7 Memory"),
         WatchFault::Filters => plain("8 Filters"),
+    }
+}
+
+/// The port of a switch whose recording a network's stands for.
+fn port_of(network: Network) -> &'static str {
+    match network {
+        Network::A => "before",
+        Network::B => "after",
+    }
+}
+
+fn transit_part(fault: WatchFault) -> Part {
+    match fault {
+        WatchFault::Header { network, fault } => Part {
+            name: "2 Header",
+            about: About::Words(port_of(network), header_name(fault)),
+        },
+        WatchFault::Read { network } => with_word("3 Read", port_of(network)),
+        fault => watch_part(fault),
     }
 }
 
@@ -298,6 +319,7 @@ fn contradiction_name(found: Contradiction) -> &'static str {
         Contradiction::Link => "link",
         Contradiction::Copy => "copy",
         Contradiction::Counts => "counts",
+        Contradiction::Verdict => "verdict",
     }
 }
 
@@ -340,6 +362,7 @@ fn icd_part(fault: IcdFault) -> Part {
 fn selection_name(option: SelectionOption) -> &'static str {
     match option {
         SelectionOption::Link => "link",
+        SelectionOption::Routed => "routed",
         SelectionOption::Verdict => "verdict",
         SelectionOption::From => "from",
         SelectionOption::To => "to",
@@ -360,9 +383,14 @@ fn part_of(fault: &Fault) -> (&'static str, Part) {
         Fault::Numeric { fault, .. } => ("numeric", numeric_part(fault)),
         Fault::Load { fault, .. } => ("load", load_part(fault)),
         Fault::Watch(fault) => ("watch", watch_part(fault)),
+        Fault::Transit(fault) => ("transit", transit_part(fault)),
         Fault::Manifest => ("watch", plain("4 Write manifest")),
         Fault::Debug(fault) => ("debug", debug_part(fault)),
         Fault::Cut(fault) => ("cut", cut_part(fault)),
+        Fault::Selection {
+            option: SelectionOption::Routed,
+            item,
+        } => ("transit 8 Selection", placed_at("routed", item)),
         Fault::Selection { option, item } => {
             ("cut 8 Selection", placed_at(selection_name(option), item))
         }
@@ -375,6 +403,7 @@ fn part_of(fault: &Fault) -> (&'static str, Part) {
         Fault::Icd(fault) => ("links", icd_part(fault)),
         Fault::Draft(fault) => ("links 3 Draft", config_part(fault)),
         Fault::Unsound => ("check", plain("1 Unsound")),
+        Fault::Questioned => ("transit", plain("1 Unsound")),
     }
 }
 

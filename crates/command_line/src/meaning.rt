@@ -234,7 +234,12 @@ fn needs(file: FileOption) -> &'static str {
         FileOption::Filter => "needs a filter in the numeric form, at most 16 MiB of UTF-8",
         FileOption::Icd => "needs comma-separated values, at most 16 MiB of UTF-8",
         FileOption::Source => "needs a filter's source, at most 16 MiB of UTF-8",
-        FileOption::Recording | FileOption::Tap | FileOption::A | FileOption::B => {
+        FileOption::Recording
+        | FileOption::Tap
+        | FileOption::A
+        | FileOption::B
+        | FileOption::Before
+        | FileOption::After => {
             "needs a recording that can be read: a pcap or pcapng file, or a pipe"
         }
         FileOption::BaselineConfig => {
@@ -334,15 +339,19 @@ fn selection_advice(option: SelectionOption) -> &'static str {
         SelectionOption::Link => {
             "--link needs identifiers 0 to 65535, as 301-305,42, or with --config names, as engine_*"
         }
+        SelectionOption::Routed => {
+            "--routed needs identifiers 0 to 65535, as 301-305,42, or names of the table, as engine_*"
+        }
         SelectionOption::Verdict => {
             "--verdict needs words of a ledger's fields 6 to 9, 'discarded', 'faults' or 'delivered'"
         }
         SelectionOption::From => {
-            "a time is 2027-01-15T08:00:12.119534506Z, 08:00:12.1195, +12.1195, or nanoseconds since 1970"
+            "a time is 2027-01-15T08:00:12.119534506Z, 08:00:12.1195, 08:00, +12.1195, +12s, or nanoseconds \
+             since 1970"
         }
         SelectionOption::To => {
-            "a time is as 08:00:12.1195, with a date before it as 2027-01-15T08:00:12Z, +12.1195, or \
-             nanoseconds since 1970, and no earlier than --from"
+            "a time is as 08:00:12.1195 or 08:00, with a date before it as 2027-01-15T08:00:12Z, +12.1195, \
+             +12s, or nanoseconds since 1970, and no earlier than --from"
         }
         SelectionOption::Span => "--span needs a length of time, as 2s, 0.5s, 250ms or 80us",
         SelectionOption::Filters => "--filters needs a mask: 01 to ff",
@@ -357,6 +366,8 @@ fn contradiction_advice(found: Contradiction) -> &'static str {
             "a copy without its delivery before it: was the ledger or the table changed?",
         Contradiction::Counts =>
             "counts that its frames' lines don't give: was the ledger or the table changed?",
+        Contradiction::Verdict =>
+            "a verdict that the table's BAG, jitter and Smax can't give: is it the table of the run?",
     }
 }
 
@@ -410,7 +421,7 @@ fn fixed_advice(fault: &Fault) -> &'static str {
         Fault::Asm(fault) => asm_advice(fault),
         Fault::Numeric { fault, .. } => numeric_advice(fault, Written::Numeric),
         Fault::Load { fault, .. } => load_advice(fault),
-        Fault::Watch(fault) => watch_advice(fault),
+        Fault::Watch(fault) | Fault::Transit(fault) => watch_advice(fault),
         Fault::Manifest => "the manifest can't be written: is the disk full, or the pipe closed?",
         Fault::Debug(fault) => debug_advice(fault),
         Fault::Cut(fault) => cut_advice(fault),
@@ -427,6 +438,8 @@ fn fixed_advice(fault: &Fault) -> &'static str {
             "--constant is a number of 32 bits with bits 24 and 25 set, as 0x03000000 or 50331648"
         }
         Fault::Unsound => "a run with these inputs would not be sound: the answer says why",
+        Fault::Questioned =>
+            "a question is open, so what was found may be wrong: the answer asks it",
     }
 }
 

@@ -112,6 +112,20 @@ impl Display for SkippedNote {
     }
 }
 
+/// The note on packets that the recorder of a network says that it dropped, without its newline.
+#[derive(Clone, Copy)]
+pub struct DroppedNote(pub Network, pub u64);
+
+impl Display for DroppedNote {
+    fn fmt<W: fmt::Write>(&self, f: &mut Formatter<W>) -> fmt::Result {
+        let (network, packets) = (self.0.letter(), Packets(self.1));
+        write!(
+            f,
+            "afdxmon: note: the recorder of network {network} dropped {packets}"
+        )
+    }
+}
+
 /// The note on the ending of one of two recordings, without its newline.
 #[derive(Clone, Copy)]
 pub struct TapNote(pub Network, pub Ending);

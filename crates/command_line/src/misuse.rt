@@ -29,8 +29,12 @@ pub enum Misuse {
     NoPackets,
     /// A window for late timestamps is given that is none.
     NoLateness,
+    /// Kinds of other traffic are given that are none.
+    NoKind,
     /// A level of findings is given that is neither trouble nor notice.
     NoLevel,
+    /// A kind of policing is given that is neither by bytes nor by frames.
+    NoPolicing,
     /// The table of a baseline is given, and no baseline.
     NoBaseline,
     /// A run over two recordings, whose frames it puts in order, is to take timestamps in any order.
@@ -52,6 +56,8 @@ impl Misuse {
             | Misuse::NoLateness
             | Misuse::Unordered
             | Misuse::NoColumn
+            | Misuse::NoKind
+            | Misuse::NoPolicing
             | Misuse::NoLevel => ErrorKind::InvalidValue,
             Misuse::NoFilter
             | Misuse::NoRecording
@@ -78,7 +84,11 @@ impl Misuse {
             Misuse::NoDocument => "--column needs --icd, the document whose column it names",
             Misuse::Unfiltered => "--capture needs --filter, which says what frames it is to have",
             Misuse::NoNetwork => "--network is A or B",
+            Misuse::NoKind =>
+                "--expected is arp, ipv4, ipv6, lldp, ptp, 802.1q, 802.3 or EtherTypes as 0x88f7, with \
+                 commas",
             Misuse::NoLevel => "--fail-on is trouble or notice",
+            Misuse::NoPolicing => "--police is bytes or frames",
             Misuse::Uncaptured => "--pcapng needs --capture: it says how the capture is written",
             Misuse::NoManifest => "--digest needs --manifest, which has the digests",
             Misuse::NoBaseline => "--baseline-config needs --baseline, whose table it is",
@@ -87,7 +97,8 @@ impl Misuse {
             Misuse::NoLateness =>
                 "--late-us is a number of microseconds, 0 to 1000000, and of capture and debug also any",
             Misuse::Unordered =>
-                "--late-us any is for capture and debug: watch puts the frames of both networks in order",
+                "--late-us any is for capture and debug: watch and transit put the frames of both \
+                 recordings in order",
             Misuse::TwoEnds => "--to and --span both end the span of time: give one of them",
             Misuse::Incomplete => "a required argument is missing",
         }

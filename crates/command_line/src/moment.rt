@@ -3,7 +3,7 @@ ghost use Rattle.std.specs.Prelude.{◌≡◌, ◌≤◌, ◌*◌, ◌^◌, [], 
 ghost use Rattle.std.specs.Result.{result_ok};
 ghost use Rattle.jiff_fmt.specs.Temporal.{parse_time, parse_timestamp, time_parts};
 ghost use Rattle.command_line.specs.Numbers.{number_in, text_of};
-ghost use Rattle.command_line.specs.Moment.{clock_nanoseconds, decimal_in, digits_in, has_clock_bytes, has_colons, instant_in, is_clock_byte, is_digits, is_utc, is_m, is_s, is_u, moment_in, number_before, places_of, since_in, span_in, within};
+ghost use Rattle.command_line.specs.Moment.{clock_nanoseconds, decimal_in, digits_in, has_clock_bytes, has_colons, instant_in, length_in, is_clock_byte, is_digits, is_of_minutes, is_utc, is_m, is_s, is_u, moment_in, number_before, places_of, since_in, span_in, within};
 
 use jiff::Timestamp;
 use jiff::civil::Time;
@@ -68,6 +68,14 @@ fn has_colons(text: &str) -> bool
 {
     let bytes = text.as_bytes();
     bytes.len() >= 8 && bytes[2] == b':' && bytes[5] == b':'
+}
+
+/// Has the text the length of `HH:MM`, and its colon?
+fn is_of_minutes(text: &str) -> bool
+    ensures { result ≡ is_of_minutes text.now }
+{
+    let bytes = text.as_bytes();
+    bytes.len() == 5 && bytes[2] == b':'
 }
 
 /// Does the text end as one in UTC?
@@ -199,16 +207,6 @@ fn read_decimal(text: &str, unit: Unit) -> Option<u64>
     }
 }
 
-/// The nanoseconds since a beginning that a plus and seconds say.
-fn read_since(text: &str) -> Option<u64>
-    ensures { result ≡ since_in text.now }
-{
-    match text.split_once('+') {
-        Some(("", seconds)) => read_decimal(seconds, Unit::Second),
-        _ => None,
-    }
-}
-
 /// The text before `ms`.
 fn before_ms(text: &str) -> Option<&str>
     ensures { option_map text_of result ≡ number_before is_m (codes "s") text.now }
@@ -252,17 +250,37 @@ pub fn read_span(text: &str) -> Option<u64>
     }
 }
 
-/// The moment that a text says: nanoseconds since 1970, by digits alone; a time of day, `HH:MM:SS` with a
-/// fraction of up to nine digits; a date and time in UTC, as RFC 3339 writes it with a `Z`; or seconds since
-/// a beginning, after a plus. Second 60 is read as 59. None where it is none of these, before 1970, or past
-/// the 32 bits of a recording's seconds.
+/// The nanoseconds of a length of time, or of seconds without a unit.
+fn read_length(text: &str) -> Option<u64>
+    ensures { result ≡ length_in text.now }
+{
+    match read_span(text) {
+        Some(length) => Some(length),
+        None => read_decimal(text, Unit::Second),
+    }
+}
+
+/// The nanoseconds since a beginning that a plus and a length of time say.
+fn read_since(text: &str) -> Option<u64>
+    ensures { result ≡ since_in text.now }
+{
+    match text.split_once('+') {
+        Some(("", length)) => read_length(length),
+        _ => None,
+    }
+}
+
+/// The moment that a text says: nanoseconds since 1970, by digits alone; a time of day, `HH:MM`, or
+/// `HH:MM:SS` with a fraction of up to nine digits; a date and time in UTC, as RFC 3339 writes it with a `Z`;
+/// or a length of time since a beginning, after a plus, in seconds where it has no unit. Second 60 is read as
+/// 59. None where it is none of these, before 1970, or past the 32 bits of a recording's seconds.
 pub fn read_moment(text: &str) -> Option<MomentText>
     ensures { result ≡ moment_in text.now }
 {
     if is_digits(text) {
         return Some(MomentText::At(read_nanoseconds(text)?));
     }
-    if has_colons(text) && has_clock_bytes(text) {
+    if (has_colons(text) || is_of_minutes(text)) && has_clock_bytes(text) {
         return Some(MomentText::OfDay(read_clock(text)?));
     }
     if is_utc(text) {

@@ -3,8 +3,9 @@
 use crate::usage::{
     ASM_EXAMPLE, CAPTURE_EXAMPLE, CAPTURE_USAGE, CHECK_EXAMPLE, CHECK_USAGE, CUT_EXAMPLE,
     CUT_USAGE, DEBUG_EXAMPLE, DEBUG_USAGE, LINKS_EXAMPLE, LINKS_USAGE, REPORT_EXAMPLE,
-    REPORT_USAGE, WATCH_EXAMPLE, WATCH_USAGE,
+    REPORT_USAGE, TRANSIT_EXAMPLE, TRANSIT_USAGE, WATCH_EXAMPLE, WATCH_USAGE,
 };
+use clap::builder::ValueParser;
 use clap::{Arg, ArgAction, Command};
 use std::alloc::{AllocError, Global};
 
@@ -35,6 +36,15 @@ pub(crate) enum Form {
     Number8(&'static str),
     /// The same with a number of 16 bits.
     Number16(&'static str),
+    /// An option with a number from the first of these to the second, and the text of the one that it is
+    /// where it isn't given.
+    Between(u64, u64, &'static str),
+    /// The same that is nothing where it isn't given.
+    FreeBetween(u64, u64),
+    /// An option with a number of 64 bits that may be negative, 0 where it isn't given.
+    Signed,
+    /// An option with one of these words, and the one that it is where it isn't given.
+    Choice(&'static str, &'static str),
     /// The file that is written, which `-o` names too: standard output where it isn't given.
     Output,
     /// A word that no option stands before: standard input where it isn't given.
@@ -325,16 +335,87 @@ const REPORT: [Argument; 15] = [
     VERBOSE,
 ];
 
-const CHECK: [Argument; 7] = [
+const CHECK: [Argument; 8] = [
     CONFIG,
     FILTER,
     A,
     B,
     Argument(
+        "expected",
+        Form::Free("LIST"),
+        "Kinds of other traffic that the networks are to have, as 'ptp,lldp,0x88cc'",
+    ),
+    Argument(
         "whole",
         Form::Flag,
         "Read the recordings to their ends, not their first 1000000 frames",
     ),
+    Argument(
+        "json",
+        Form::Flag,
+        "Write the answer as JSON in place of text",
+    ),
+    VERBOSE,
+];
+
+const TRANSIT: [Argument; 15] = [
+    CONFIG,
+    Argument(
+        "before",
+        Form::Needed("FILE"),
+        "The recording at the port in, pcap or pcapng files, or @LIST of paths",
+    ),
+    Argument(
+        "after",
+        Form::Needed("FILE"),
+        "The recording at the port out, by the same clock",
+    ),
+    Argument(
+        "network",
+        Form::Free("A|B"),
+        "The network, for the ledger's second line",
+    ),
+    Argument(
+        "within-us",
+        Form::Between(1, 10_000_000, "10000"),
+        "The longest transit that is looked for",
+    ),
+    Argument(
+        "early-us",
+        Form::Between(0, 1_000_000, "1000"),
+        "How far clocks and stamps may be off",
+    ),
+    Argument(
+        "bound-us",
+        Form::FreeBetween(0, 10_000_000),
+        "Tell frames whose transit was longer",
+    ),
+    Argument(
+        "routed",
+        Form::Free("LIST"),
+        "The links that are routed to the port out, as '301-305,42' or 'engine_*'",
+    ),
+    Argument(
+        "shift-ns",
+        Form::Signed,
+        "Add this to each timestamp of --after",
+    ),
+    Argument(
+        "police",
+        Form::Choice("bytes|frames", "bytes"),
+        "How the switch polices: by a frame's bytes, or each as its link's Smax",
+    ),
+    Argument(
+        "grace-us",
+        Form::Between(0, 1_000_000, "1"),
+        "How far the switch's and the taps' times between frames may differ",
+    ),
+    Argument(
+        "late-us",
+        Form::Free("N"),
+        "Take timestamps out of order by N microseconds, in place of the table's late_us",
+    ),
+    Argument("ledger", FILE, "The ledger of transits to write"),
     Argument(
         "json",
         Form::Flag,
@@ -355,7 +436,7 @@ pub(crate) fn takes_value(option: &str) -> bool {
 }
 
 /// The commands in the order of the help.
-const COMMANDS: [CommandRow; 8] = [
+const COMMANDS: [CommandRow; 9] = [
     CommandRow {
         name: "capture",
         about: "Copies the frames of a recording that a filter accepts",
@@ -412,6 +493,13 @@ const COMMANDS: [CommandRow; 8] = [
         example: CHECK_EXAMPLE,
         arguments: &CHECK,
     },
+    CommandRow {
+        name: "transit",
+        about: "Tells what a switch did with the frames that went in",
+        usage: Some(TRANSIT_USAGE),
+        example: TRANSIT_EXAMPLE,
+        arguments: &TRANSIT,
+    },
 ];
 
 /// An option with a value, which may be given.
@@ -445,6 +533,17 @@ fn clap_argument<'a>(alloc: Global, row: &Argument) -> Arg<'a> {
         Form::Number16(default) => option(alloc, name, "N", help)
             .value_parser(clap::value_parser!(u16))
             .default_value(default),
+        Form::Between(least, most, default) => option(alloc, name, "N", help)
+            .value_parser(ValueParser::unsigned(least, most))
+            .default_value(default),
+        Form::FreeBetween(least, most) => {
+            option(alloc, name, "N", help).value_parser(ValueParser::unsigned(least, most))
+        }
+        Form::Signed => option(alloc, name, "N", help)
+            .value_parser(ValueParser::signed(i64::MIN, i64::MAX))
+            .allow_negative_numbers(true)
+            .default_value("0"),
+        Form::Choice(words, default) => option(alloc, name, words, help).default_value(default),
         Form::Output => option(alloc, name, "FILE", help)
             .short('o')
             .default_value("-"),

@@ -13,6 +13,14 @@ fn input_of(network: Network) -> FileOption {
     }
 }
 
+/// The recording of a switch's port that a network's stands for.
+fn port_of(network: Network) -> FileOption {
+    match network {
+        Network::A => FileOption::Before,
+        Network::B => FileOption::After,
+    }
+}
+
 fn output_of(output: Output) -> FileOption {
     match output {
         Output::Capture => FileOption::Capture,
@@ -101,7 +109,11 @@ pub fn file_of(fault: &Fault) -> Option<FileOption> {
         Fault::Watch(WatchFault::Header { network, .. } | WatchFault::Read { network }) => {
             Some(input_of(network))
         }
-        Fault::Watch(WatchFault::Write { output }) => Some(output_of(output)),
+        Fault::Transit(WatchFault::Header { network, .. } | WatchFault::Read { network }) => {
+            Some(port_of(network))
+        }
+        Fault::Watch(WatchFault::Write { output }) | Fault::Transit(WatchFault::Write { output }) =>
+            Some(output_of(output)),
         Fault::Manifest => Some(FileOption::Manifest),
         Fault::Watch(
             WatchFault::Workers
@@ -110,11 +122,13 @@ pub fn file_of(fault: &Fault) -> Option<FileOption> {
             | WatchFault::Memory
             | WatchFault::Filters,
         )
+        | Fault::Transit(_)
         | Fault::Debug(_)
         | Fault::Selection { .. }
         | Fault::Constant
         | Fault::Draft(_)
-        | Fault::Unsound => None,
+        | Fault::Unsound
+        | Fault::Questioned => None,
         Fault::Cut(fault) => cut_file(fault),
         Fault::Report(fault) => report_file(fault),
         Fault::Baseline(fault) => baseline_file(fault),

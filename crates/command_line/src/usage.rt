@@ -50,8 +50,8 @@ Frames are written whole, as recorded, in the ledger's order. A frame is selecte
 option from --link to --filters that is given. With --around the ledger is read twice: it has to be
 a file. Lines of a network whose recording isn't given are passed over. A TIME is
 '2027-01-15T08:00:12.119534506Z', the '08:00:12.1195' or '08:00' of the recording's day in UTC,
-'+12.1195' or '+12s' after the ledger's first frame, or nanoseconds since 1970. A --to earlier in the day than
---from is one of the next day. '-' is standard input, or standard output.
+'+12.1195' or '+12s' after the ledger's first frame, or nanoseconds since 1970. A --to earlier in
+the day than --from is one of the next day. '-' is standard input, or standard output.
 
 Example: keep the frames that policing discarded
   afdxmon cut --ledger flight.ledger --a a.pcap --b b.pcap --verdict excess -o excess.pcap";
@@ -98,3 +98,17 @@ standard input.
 
 Example: whether a table, a filter and two recordings belong together
   afdxmon check --config flight.toml --filter flight.filter --a a.pcap --b b.pcap";
+
+/// How `transit` is called.
+pub const TRANSIT_USAGE: &str = "\
+afdxmon transit [OPTIONS] --config <FILE> --before <FILE>... --after <FILE>...";
+
+/// The text after the options in the help of `transit`.
+pub const TRANSIT_EXAMPLE: &str = "\
+Both recordings are made by one clock. The answer goes to standard output; the ledger has a line for each
+frame that went in, and for each that came out and never went in. The exit status is 1 where a question
+is open, as whether the clocks are apart. '-' is standard input, or standard output.
+
+Example: what the switch did, and each frame that it dropped
+  afdxmon transit --config flight.toml --before in.pcap --after out.pcap --ledger transit.ledger
+  grep ' dropped ' transit.ledger";

@@ -8,7 +8,7 @@ use std::alloc::{AllocError, Global};
 pub const BETWEEN_FILES: char = '\0';
 
 /// The options whose value is a recording.
-const RECORDINGS: [&str; 3] = ["--a", "--b", "--tap"];
+const RECORDINGS: [&str; 5] = ["--a", "--b", "--tap", "--before", "--after"];
 
 /// The command whose recording no option stands before.
 const CAPTURE: &str = "capture";
@@ -54,8 +54,8 @@ fn role_after(before: Role, is_capture: bool, word: &str) -> Role {
 }
 
 /// The words of a command line, the program's own name first, in which the files of each recording are one
-/// word, with [`BETWEEN_FILES`] between them. They are the words after `--a`, `--b` or `--tap` up to the next
-/// option, and of `capture` those that no option takes.
+/// word, with [`BETWEEN_FILES`] between them. They are the words after `--a`, `--b`, `--tap`, `--before` or
+/// `--after` up to the next option, and of `capture` those that no option takes.
 pub fn gathered(alloc: Global, words: &[String]) -> Result<Vec<String>, AllocError> {
     let mut gathered: Vec<String> = Vec::with_capacity(alloc, words.len())?;
     let is_capture = words.get(1).is_some_and(|word| word.as_str() == CAPTURE);

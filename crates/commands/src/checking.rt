@@ -3,7 +3,7 @@ use crate::inputs::{MAX_LATE, shown_path, text_of};
 use afdx_frame::Network;
 use bpf_loader::Program;
 use check_answer::{Answer, FilterAnswer, TapAnswer, json_of, text_of as answer_text, verdict_of};
-use command_line::{CheckArguments, Exit, Fault, FileOption, Invocation};
+use command_line::{CheckArguments, Exit, Fault, FileOption, Invocation, kinds_in};
 use pcap_io::Ending;
 use run_fault::{MAX_FRAMES, WatchFault};
 use run_inputs::filter_of;
@@ -221,7 +221,8 @@ fn check_inputs(
     let name_b = name_of(rt, taps.of_network(Network::B))?;
     let recordings = (taps, [name_a.as_str(), name_b.as_str()]);
     let filters = filter_answers(rt, given, table.config)?;
-    let mut inputs = Inputs::new(rt.alloc(), table.config)?;
+    let expected = kinds_in(rt.alloc(), given.expected.unwrap_or(""))?;
+    let mut inputs = Inputs::new(rt.alloc(), table.config, &expected)?;
     let passed = read_recordings(rt, given, recordings, table.config, &mut inputs)?;
     tell_inputs(rt, given, table, &filters, &inputs, passed)
 }

@@ -1,6 +1,6 @@
 //! What a person is told of a ledger's line that contradicts the table: which link, and how.
 use command_line::Shown;
-use ledger_report::{Difference, Disputed};
+use ledger_report::{Difference, Disputed, Unheld};
 use std::alloc::Global;
 use std::fmt;
 use std::fmt::{Display, Formatter};
@@ -65,7 +65,20 @@ impl Display for DisputedLink<'_> {
                 write!(f, " of the table {table} is {name} there")?;
             }
             Difference::Uncounted => write!(f, " of the table {table} has no counts there")?,
+            Difference::Unheld(why) => {
+                let words = unheld_words(*why);
+                write!(f, " has a frame {words} the table {table}")?;
+            }
         }
         f.write_str(": is it the table of the run?")
+    }
+}
+
+/// How a verdict of policing and the table differ on a link.
+fn unheld_words(why: Unheld) -> &'static str {
+    match why {
+        Unheld::Size => "that isn't toolong, and longer than Smax in",
+        Unheld::Within => "within an account that can't hold it, by",
+        Unheld::Excess => "in excess of an account that holds it, by",
     }
 }

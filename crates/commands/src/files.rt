@@ -80,7 +80,7 @@ fn add_own_streams(
 ) -> Result<(), AllocError> {
     let (reads, writes) = match command {
         Invocation::Asm | Invocation::Debug(_) => (true, true),
-        Invocation::Links(_) | Invocation::Check(_) => (false, true),
+        Invocation::Links(_) | Invocation::Check(_) | Invocation::Transit(_) => (false, true),
         _ => (false, false),
     };
     for (is_there, is_written) in [(reads, false), (writes, true)] {

@@ -18,6 +18,7 @@ mod inputs;
 mod outputs;
 mod reporting;
 mod standard_input;
+mod transiting;
 
 pub use assembling::asm;
 pub use capturing::capture;
@@ -32,3 +33,4 @@ pub use outputs::{
     format_of, shared, summarise, with_manifest, worst_links,
 };
 pub use reporting::report;
+pub use transiting::transit;

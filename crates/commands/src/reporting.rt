@@ -8,7 +8,9 @@ use command_line::{
     ReportArguments, ReportFault, selection_of,
 };
 use findings::Level;
-use ledger_report::{Disputed, NoReport, Part, Report, WrongLine, read_part, read_report};
+use ledger_report::{
+    Difference, Disputed, NoReport, Part, Report, WrongLine, read_part, read_report,
+};
 use ledger_text::LineFault;
 use pcap_io::ReadSource;
 use report_page::{Shown, csv_of, failing, has_sizes, json_of, page_of, summary_of};
@@ -206,6 +208,32 @@ fn no_report(
     }
 }
 
+/// Refuses a ledger with a verdict that the table can't give.
+fn refuse_unheld(
+    rt: &HostRuntime,
+    report: &Report,
+    table: KnownTable<'_>,
+    of_baseline: bool,
+) -> Result<(), Outcome> {
+    let Some(unheld) = report.unheld else {
+        return Ok(());
+    };
+    let fault = ReportFault::Contradiction {
+        line: unheld.line,
+        found: Contradiction::Verdict,
+    };
+    let fault = if of_baseline {
+        baseline_fault(fault)
+    } else {
+        Fault::Report(fault)
+    };
+    let disputed = Disputed {
+        id: unheld.id,
+        how: Difference::Unheld(unheld.why),
+    };
+    Err(no_report(rt, fault, (table, Some(disputed)), None))
+}
+
 /// The report of the baseline's ledger, if there is one.
 fn baseline_of(
     rt: &HostRuntime,
@@ -216,7 +244,10 @@ fn baseline_of(
         return Ok(None);
     };
     match read_report(rt.alloc(), table.config, ReadSource::new(&mut ledger), None) {
-        Ok(report) => Ok(Some(report)),
+        Ok(report) => {
+            refuse_unheld(rt, &report, table, true)?;
+            Ok(Some(report))
+        }
         Err(refused) => {
             let fault = baseline_fault(fault_of(refused.fault));
             Err(no_report(rt, fault, (table, refused.disputed), ledger.refused()))
@@ -292,7 +323,10 @@ fn read_ledger(
         read.map_err(|refused| (refused.fault, refused.disputed))
     };
     match read {
-        Ok(report) => Ok(report),
+        Ok(report) => {
+            refuse_unheld(rt, &report, table, false)?;
+            Ok(report)
+        }
         Err((fault, disputed)) => {
             let fault = Fault::Report(fault_of(fault));
             Err(no_report(rt, fault, (table, disputed), ledger.inner.refused()))
@@ -359,6 +393,7 @@ pub fn report(
     let before = baseline.as_ref();
     let before_config = earlier.as_ref();
     let before_ledger = given.baseline;
+    let table_name = shown_path(given.config);
     let title = given.title.unwrap_or(TITLE);
     let from = given.from;
     let to = given.to;
@@ -373,6 +408,7 @@ pub fn report(
         baseline_config: before_config,
         baseline_ledger: before_ledger,
         ledger: given.ledger,
+        table: table_name,
         title,
         from,
         to,

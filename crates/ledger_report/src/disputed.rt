@@ -1,5 +1,6 @@
 //! Of a line that contradicts the table, which link it is about, and how both differ.
 
+use crate::accounts::Unheld;
 use crate::fault::WrongLine;
 use crate::frame_lines::FrameLines;
 use afdx_frame::VlId;
@@ -22,6 +23,8 @@ pub enum Difference {
     Named(String),
     /// The table has the link, and the lines of counts don't.
     Uncounted,
+    /// The line has a verdict that no account of the link in the table gives.
+    Unheld(Unheld),
 }
 
 /// A link on which a line and the table differ.

@@ -13,6 +13,7 @@
 //! ```
 #![tactic(auto)]
 
+mod accounts;
 mod anomalies;
 mod bounds;
 mod counts;
@@ -35,6 +36,7 @@ mod series;
 mod statistics;
 mod worse;
 
+pub use accounts::{Unheld, UnheldLine};
 pub use anomalies::{Anomalies, Anomaly, AnomalyTally};
 pub use bounds::{BINS, FIRST_WIDTH};
 pub use counts::FrameCounts;

@@ -9,6 +9,7 @@ ghost use Rattle.ledger_report.specs.FrameLines.{HasTaken};
 ghost use Rattle.ledger_report.specs.Reading.{HasNoted, IsRead, TellsLedger};
 ghost use Rattle.ledger_report.specs.Refused.{IsRefused, line_fault, read_fault, source_at};
 
+use crate::accounts::UnheldLine;
 use crate::counts::FrameCounts;
 use crate::counts_lines::{CountsLines, TapEnding};
 use crate::disputed::Disputed;
@@ -81,6 +82,9 @@ pub struct Report {
     pub part: Option<Part>,
     /// How the recordings end, where the ledger says so.
     pub endings: PerNetwork<Option<TapEnding>>,
+    /// The first line whose verdict no account of its link in the table gives. Of a part of a ledger, which
+    /// lacks lines before it, none is told.
+    pub unheld: Option<UnheldLine>,
     /// Does the ledger have its last line?
     pub whole: bool,
     /// Where it ends, if it doesn't.
@@ -292,7 +296,11 @@ pub fn read_part<S: TapSource + Drop>(
     let stop = read_partial(config, &mut ledger, &mut reading)?;
     let stop = stop.filter(|stop| stop.within_line);
     match reading.statistics.end(&reading.lines.endings) {
-        Ok(()) => Ok(reading.into_report(stop)),
+        Ok(()) => {
+            let mut report = reading.into_report(stop);
+            report.unheld = None;
+            Ok(report)
+        }
         Err(AllocError) => Err(NoReport::Memory),
     }
 }
@@ -353,6 +361,7 @@ impl Reading {
             counts,
             part: statistics.part,
             endings: lines.endings,
+            unheld: statistics.accounts.unheld,
             whole: lines.whole,
             stop,
         }

@@ -1,5 +1,6 @@
 //! What each line adds to the numbers of its network and its link.
 
+use crate::accounts::Accounts;
 use crate::anomalies::Anomaly;
 use crate::bounds::FIRST_WIDTH;
 use crate::counts_lines::{TapEnd, TapEnding};
@@ -52,6 +53,8 @@ pub struct Statistics {
     /// By identifier, the frames of a link outside the table; none where there is no such frame.
     pub outside: Vec<OutsideLink>,
     analysis: Analysis,
+    /// The accounts of policing, as far as all lines tell them.
+    pub(crate) accounts: Accounts,
     /// Which lines are noted, where not all are.
     pub part: Option<Part>,
     /// The findings, once the ledger has ended.
@@ -181,6 +184,7 @@ impl Statistics {
             index: index_of(alloc, config)?,
             outside: Vec::new(alloc),
             analysis: Analysis::new(alloc, config)?,
+            accounts: Accounts::new(alloc, config)?,
             part,
             findings: Findings::none(alloc),
         })
@@ -194,6 +198,8 @@ impl Statistics {
     /// Notes the ledger's next line of a frame, of which nothing is wrong, among the lines so far, if it is
     /// taken.
     pub(crate) fn note(&mut self, line: &FrameLine, lines: &FrameLines) -> Result<(), AllocError> {
+        let place = line.link.map_or(usize::MAX, |id| self.place_of(id));
+        self.accounts.note(line, place);
         let takes = match &mut self.part {
             Some(part) => part.takes(line),
             None => true,
@@ -222,6 +228,13 @@ impl Statistics {
         }
     }
 
+    /// The place of a link in the table. More than there are: the table lacks it.
+    #[inline]
+    fn place_of(&self, id: VlId) -> usize {
+        let place = self.index.get(usize::from(id.0));
+        place.map_or(usize::MAX, |place| usize::from(*place))
+    }
+
     /// Notes the line of a link.
     #[inline]
     fn note_link(
@@ -231,8 +244,7 @@ impl Statistics {
         at: &LinePlace,
         lines: &FrameLines,
     ) -> Result<(), AllocError> {
-        let place = self.index.get(usize::from(id.0));
-        let place = place.map_or(usize::MAX, |place| usize::from(*place));
+        let place = self.place_of(id);
         let Some(link) = self.links.get_mut(place) else {
             return self.note_outside(id, at);
         };

@@ -105,10 +105,10 @@ fn path_of<'a>(command: Invocation<'a>, file: FileOption) -> Option<&'a str> {
 /// The recording that an option names, if it names one.
 fn tap_of<'a>(taps: &'a Taps, file: FileOption) -> Option<&'a Tap> {
     match file {
-        FileOption::A | FileOption::Recording | FileOption::Tap => Some(taps.of_network(
-            Network::A,
-        )),
-        FileOption::B => Some(taps.of_network(Network::B)),
+        FileOption::A | FileOption::Recording | FileOption::Tap | FileOption::Before => {
+            Some(taps.of_network(Network::A))
+        }
+        FileOption::B | FileOption::After => Some(taps.of_network(Network::B)),
         _ => None,
     }
 }
@@ -543,6 +543,7 @@ fn is_of_write(fault: &Fault) -> bool {
     matches!(
         fault,
         Fault::Watch(WatchFault::Write { .. })
+            | Fault::Transit(WatchFault::Write { .. })
             | Fault::Cut(CutFault::Write)
             | Fault::Manifest
             | Fault::File(FileOption::Standard)
@@ -570,6 +571,7 @@ fn explain(
     match (*fault, file) {
         (Fault::File(_), Some(file)) => explain_named(rt, command, file, fault, known),
         (Fault::Watch(fault), Some(file)) => explain_watch(rt, command, file, fault, known),
+        (Fault::Transit(fault), Some(file)) => explain_watch(rt, command, file, fault, known),
         (Fault::Cut(fault), Some(file)) => explain_cut(rt, command, file, fault, known),
         (Fault::Report(found), Some(file)) => {
             explain_report(rt, command, file, found, fault, known)

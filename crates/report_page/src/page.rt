@@ -39,21 +39,24 @@ fn push_recording<'x>(page: &mut Page, word: &'x str, file: Option<&'x Recording
         None => &[],
     };
     let more = (files.len() as u64).saturating_sub(1);
+    let dropped = file.dropped.unwrap_or(0);
     fill!(page; text::FILE; word = Text(word), path = Given(&file.path), one = flag(more == 1),
         more = Number(if more > 1 { more } else { 0 }), spans = flag(spans),
         first = given_if(&file.first_utc), last = given_if(&file.last_utc),
         bytes = Grouped(file.bytes.unwrap_or(0)), frames = Grouped(file.frames.unwrap_or(0)),
         counted = flag(file.frames.is_some()), end = given_if(&file.end), reason = given_if(&file.reason),
-        sha256 = given_if(&file.sha256));
+        sha256 = given_if(&file.sha256), dropped = Grouped(dropped), several = flag(dropped > 1));
     for (at, file) in files.iter().enumerate() {
         fill!(page; text::ONE_FILE; word = Text(word), number = Number(at as u64 + 1),
             path = Given(&file.path), bytes = Grouped(file.bytes), sha256 = given_if(&file.sha256));
     }
 }
 
-/// Appends the program that ran, its command line, and its files, if they are known.
-fn push_run(page: &mut Page, manifest: Option<&Manifest>) {
-    let Some(manifest) = manifest else {
+/// Appends the program that ran, its command line, and its files; where they aren't known, the table that
+/// the ledger is taken to be of.
+fn push_run(page: &mut Page, view: &View<'_>) {
+    let Some(manifest) = view.manifest else {
+        fill!(page; text::UNTIED; table = Given(view.table));
         return;
     };
     let (program, inputs, outputs) = (&manifest.program, &manifest.inputs, &manifest.outputs);
@@ -181,7 +184,7 @@ fn push_section(page: &mut Page, view: &View<'_>, before: Option<&View<'_>>, nam
     match name {
         "filters" => push_filters(page, view),
         "part" => push_part(page, view),
-        "run" => push_run(page, view.manifest),
+        "run" => push_run(page, view),
         "reasons" => push_reasons(page, view),
         "skew" => push_skew(page, view),
         "ending a" => push_ending(page, &view.report.endings.a),

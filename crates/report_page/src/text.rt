@@ -80,11 +80,17 @@ This page has no script and fetches nothing.</p></footer></body></html>\n";
 /// The program that ran, and its command line.
 pub const RUN: &str = "<p class=\"of\">$name$ $version$ (commit $commit$): <code>";
 
+/// The table of a report without a manifest.
+pub const UNTIED: &str = "\
+<p class=\"of\">table <b>$table$</b>: nothing ties it to the ledger, since no manifest of the run \
+was given</p>";
+
 /// A file of the run. The facts after its size are those of a recording.
 pub const FILE: &str = "\
 <br/>$word$ <b>$path$</b>$?one$ and 1 more file$/$$?more$ and $more$ more files$/$: \
 $bytes$ bytes$?counted$, $frames$ frames$/$\
 $?spans$ from $first$ to $last$$/$$?end$, ends $end$$/$$?reason$ ($reason$)$/$\
+$?dropped$, <b>its recorder dropped $dropped$ packet$?several$s$/$: lost numbers may be these</b>$/$\
 $?sha256$, SHA-256 <code>$sha256$</code>$/$";
 
 /// A file of a recording in several, where its digest is known.

@@ -88,8 +88,9 @@ pub struct Shown<'a> {
     pub baseline: Option<&'a Report>,
     pub baseline_config: Option<&'a Config>,
     pub baseline_ledger: Option<&'a str>,
-    /// The path of the ledger.
+    /// The path of the ledger, and that of the table.
     pub ledger: &'a str,
+    pub table: &'a str,
     /// The title of the page.
     pub title: &'a str,
     /// Which part of the ledger the report is about, as it was asked for.
@@ -126,6 +127,7 @@ pub struct View<'a> {
     pub baseline: Option<&'a Report>,
     pub manifest: Option<&'a Manifest>,
     pub ledger: &'a str,
+    pub table: &'a str,
     pub title: &'a str,
     pub zoom: Zoom<'a>,
     pub fail_on: Option<Level>,
@@ -152,6 +154,7 @@ impl<'a> View<'a> {
             baseline_config: _,
             baseline_ledger: _,
             ledger,
+            table,
             title,
             from,
             to,
@@ -178,6 +181,7 @@ impl<'a> View<'a> {
             baseline,
             manifest,
             ledger,
+            table,
             title,
             zoom,
             fail_on,

@@ -82,6 +82,8 @@ pub struct RecordingRecord {
     pub first_utc: Option<String>,
     pub last: Option<String>,
     pub last_utc: Option<String>,
+    /// How many packets its recorder says that it dropped, where it says so.
+    pub dropped: Option<u64>,
 }
 
 /// The timestamps of a recording's first and last frame, in nanoseconds since 1970 (UTC).
@@ -184,6 +186,7 @@ impl RecordingRecord {
             first_utc: None,
             last: None,
             last_utc: None,
+            dropped: None,
         })
     }
 

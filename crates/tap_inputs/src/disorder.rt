@@ -42,7 +42,10 @@ fn taken_by(command: Invocation<'_>, late: u64) -> Taken {
     let micros = late.div_ceil(1000);
     match command {
         _ if late >= DAY => Taken::NoTime,
-        Invocation::Capture(_) | Invocation::Debug(_) | Invocation::Watch(_)
+        Invocation::Capture(_)
+        | Invocation::Debug(_)
+        | Invocation::Watch(_)
+        | Invocation::Transit(_)
             if micros <= MAX_LATE_MICROS => { Taken::By(micros) }
         Invocation::Capture(_) | Invocation::Debug(_) => Taken::InAnyOrder,
         Invocation::Check(_) if micros <= MAX_LATE_MICROS => Taken::ByTable(micros),

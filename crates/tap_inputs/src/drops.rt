@@ -2,10 +2,14 @@
 
 use crate::described::described_in;
 use crate::interface::{LOOKED_AT, is_pcapng};
-use crate::taps::{Tap, TapFile};
+use crate::outcome::Outcome;
+use crate::taps::{Tap, TapFile, Taps};
+use afdx_frame::Network;
+use command_line::DroppedNote;
 use pcap_io::ByteOrder;
 use pcapng::{Choice, MAX_INTERFACES};
 use std::fs::File;
+use std::io;
 use std::io::{Read, Seek, SeekFrom};
 
 /// The most bytes of a block of statistics that is read.
@@ -166,4 +170,27 @@ impl Tap {
         }
         dropped
     }
+}
+
+impl Taps {
+    /// The same of the recordings of networks A and B.
+    pub fn dropped(&self, rt: &HostRuntime) -> [u64; 2] {
+        let a = self.of_network(Network::A).dropped(rt);
+        let b = self.of_network(Network::B).dropped(rt);
+        [a, b]
+    }
+}
+
+/// Notes how many packets the recorders of a run say that they dropped, unless a fault was told.
+pub fn tell_dropped(rt: &HostRuntime, outcome: &Outcome) -> io::Result<()> {
+    if outcome.exit.status() != 0 {
+        return Ok(());
+    }
+    let [a, b] = outcome.dropped;
+    for (network, packets) in [(Network::A, a), (Network::B, b)] {
+        if packets > 0 {
+            rt.eprintln(DroppedNote(network, packets))?;
+        }
+    }
+    Ok(())
 }

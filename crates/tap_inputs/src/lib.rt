@@ -27,6 +27,7 @@ mod texts;
 
 pub use blocks::{BLOCK, Blocks, LiveInput, SharedBlocks};
 pub use disorder::{Amount, Disorder};
+pub use drops::tell_dropped;
 pub use interface::{Skipped, status_of};
 pub use limits::{Limited, print, standard_output, takes_messages};
 pub use opening::{open, open_tap};

@@ -69,6 +69,8 @@ pub struct Outcome {
     pub worst: Option<String>,
     /// How many packets of the recordings are not of Ethernet.
     pub skipped: Skipped,
+    /// How many packets the recorders of networks A and B say that they dropped.
+    pub dropped: [u64; 2],
     /// Why a recording wasn't read that the answer of `check` is about.
     pub unread: Option<Fault>,
     /// The numbers of the files that were read last of the recordings.
@@ -83,6 +85,7 @@ impl From<Exit> for Outcome {
             detail: None,
             worst: None,
             skipped: Skipped::none(),
+            dropped: [0, 0],
             unread: None,
             at: [0, 0],
         }

@@ -6,7 +6,7 @@ use crate::texts::text_in;
 use afdx_frame::Network;
 use command_line::{
     BETWEEN_FILES, CaptureArguments, CheckArguments, CutArguments, DebugArguments, Fault,
-    FileOption, Inode, Invocation, LinksArguments, WatchArguments, is_standard,
+    FileOption, Inode, Invocation, LinksArguments, TransitArguments, WatchArguments, is_standard,
 };
 use pcap_io::{Found, ReadSource, TapReader, TapSource};
 use pcapng::Choice;
@@ -67,6 +67,7 @@ fn recordings_of<'a>(command: Invocation<'a>) -> (Option<&'a str>, Option<&'a st
         Invocation::Cut(given) => (given.a, given.b),
         Invocation::Links(given) => (given.a, given.b),
         Invocation::Check(given) => (given.a, given.b),
+        Invocation::Transit(given) => (Some(given.before), Some(given.after)),
         Invocation::Asm | Invocation::Report(_) => (None, None),
     }
 }
@@ -76,6 +77,8 @@ pub fn option_of(command: Invocation<'_>, network: Network) -> FileOption {
     match (command, network) {
         (Invocation::Capture(_), _) => FileOption::Recording,
         (Invocation::Debug(_), _) => FileOption::Tap,
+        (Invocation::Transit(_), Network::A) => FileOption::Before,
+        (Invocation::Transit(_), Network::B) => FileOption::After,
         (_, Network::A) => FileOption::A,
         (_, Network::B) => FileOption::B,
     }
@@ -246,6 +249,11 @@ impl Taps {
             Invocation::Cut(given) => Invocation::Cut(CutArguments { a, b, ..given }),
             Invocation::Links(given) => Invocation::Links(LinksArguments { a, b, ..given }),
             Invocation::Check(given) => Invocation::Check(CheckArguments { a, b, ..given }),
+            Invocation::Transit(given) => Invocation::Transit(TransitArguments {
+                before: a.unwrap_or(given.before),
+                after: b.unwrap_or(given.after),
+                ..given
+            }),
             Invocation::Asm | Invocation::Report(_) => command,
         }
     }

@@ -20,7 +20,7 @@ fn after_byte(register: u32, byte: u8) -> u32 {
 }
 
 /// Do these bytes of a frame end with its frame check sequence? Of others one in 2^32 does by chance.
-pub(crate) fn ends_with_check(bytes: &[u8]) -> bool {
+pub fn ends_with_check(bytes: &[u8]) -> bool {
     let register = bytes
         .iter()
         .fold(u32::MAX, |register, byte| after_byte(register, *byte));

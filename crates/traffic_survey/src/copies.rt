@@ -44,14 +44,16 @@ impl Copies {
         }
     }
 
-    /// Counts the frame with this number.
+    /// Counts the frame with this number. Some: it comes so much later than one of the other network that has
+    /// the number, too much for a copy or not.
     #[inline(always)]
-    pub(crate) fn see(&mut self, network: Network, number: u8, stamp: Stamp) {
+    pub(crate) fn see(&mut self, network: Network, number: u8, stamp: Stamp) -> Option<u64> {
         let index = *self.seen.of(network);
         *self.seen.of_mut(network) = index.saturating_add(1);
         let others = *self.seen.of(network.other());
         let place = usize::from(number);
-        match skew_of(self.latest[place], network, others, stamp) {
+        let skew = skew_of(self.latest[place], network, others, stamp);
+        match skew {
             Some(skew) if skew <= self.most_skew => {
                 self.latest[place] = None;
                 self.count = self.count.saturating_add(1);
@@ -64,6 +66,16 @@ impl Copies {
                     index,
                 });
             }
+        }
+        skew
+    }
+
+    /// Is a frame a copy that comes so much later than one of the other network?
+    #[inline(always)]
+    pub(crate) fn is_copy(&self, skew: Option<u64>) -> bool {
+        match skew {
+            Some(skew) => skew <= self.most_skew,
+            None => false,
         }
     }
 }

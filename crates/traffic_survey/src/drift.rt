@@ -1,12 +1,13 @@
-//! Whether the clocks of two taps move apart, and whether a recording has frames twice.
+//! Whether the clocks of two taps move apart.
 
-use crate::clocks::{Meeting, Sample};
-use crate::decide::{is_nearly_all, wiring_of};
+use crate::clocks::Meeting;
+use crate::decide::is_nearly_all;
 use crate::inputs::Inputs;
-use crate::questions::{Crossing, Question};
+use crate::questions::Question;
+use crate::steps::steps_of;
+use crate::twice::ask_of_recording;
 use afdx_frame::Network;
 use std::alloc::{AllocError, Global};
-use vl_config::Link;
 
 /// How fast the clock of one tap moves away from the other's.
 #[derive(Clone, Copy)]
@@ -32,9 +33,6 @@ const MAX_DRIFT: u64 = 1_000_000_000;
 
 /// So many links at least tell a drift.
 const LEAST_LINKS: usize = 4;
-
-/// Of so many first frames at least it is looked whether they come twice.
-const LEAST_FRAMES: usize = 8;
 
 /// How much longer one time is than another, in parts in 10^12 of it.
 fn parts_of(longer: u64, shorter: u64) -> u64 {
@@ -125,92 +123,6 @@ fn drift_of(rates: &[Meeting]) -> Option<Drift> {
     }
 }
 
-/// Does a frame have the number of the one before, closer than half of a BAG? One sender doesn't send so.
-fn is_again(link: &Link, before: &Sample, sample: &Sample) -> bool {
-    before.number == sample.number && sample.stamp.saturating_sub(before.stamp) < link.bag / 2
-}
-
-/// Do the first frames of a link come twice on a network, a quarter of them at least?
-fn comes_twice(link: &Link, starts: &[Sample]) -> bool {
-    let pairs = starts.iter().zip(starts.iter().skip(1));
-    let again = pairs
-        .filter(|(before, sample)| is_again(link, before, sample))
-        .count();
-    starts.len() >= LEAST_FRAMES && again >= starts.len() / 4
-}
-
-/// Do the frames of most links that have some come twice on a network?
-fn are_twice(inputs: &Inputs<'_>, network: Network) -> bool {
-    let (mut twice, mut known) = (0usize, 0usize);
-    for (link, tally) in inputs.links().iter().zip(inputs.tallies()) {
-        let starts = tally.starts(network);
-        if link.integrity && starts.len() >= LEAST_FRAMES {
-            known = known.saturating_add(1);
-            if comes_twice(link, starts) {
-                twice = twice.saturating_add(1);
-            }
-        }
-    }
-    twice > known / 2
-}
-
-/// Do the source addresses of a recording name both networks, each in a quarter of its frames at least?
-fn names_both(inputs: &Inputs<'_>, network: Network) -> bool {
-    let marks = inputs.tap(network).marks;
-    let quarter = marks.frames / 4;
-    marks.as_a > 0 && marks.as_a >= quarter && marks.as_b > 0 && marks.as_b >= quarter
-}
-
-/// The frames on a network whose source addresses name the other one, if there are some.
-fn crossing_of(inputs: &Inputs<'_>, network: Network) -> Option<Crossing> {
-    let others = inputs.tap(network).crossed.others()?;
-    let mut crossing: Option<Crossing> = None;
-    for (link, tally) in inputs.links().iter().zip(inputs.tallies()) {
-        if !tally.is_crossed(network) {
-            continue;
-        }
-        let (first, links) = match crossing {
-            Some(before) => (before.link, before.links),
-            None => (link.id, 0),
-        };
-        crossing = Some(Crossing {
-            network,
-            frames: others.frames,
-            of: others.of,
-            link: first,
-            links: links.saturating_add(1),
-            first: others.first,
-            last: others.last,
-        });
-    }
-    crossing
-}
-
-/// Are the recordings told to be other networks' than the frames', or to be one?
-fn is_wiring_told(inputs: &Inputs<'_>) -> bool {
-    let (a, b) = (inputs.tap(Network::A), inputs.tap(Network::B));
-    a.is_same(b) || wiring_of(a.marks, b.marks).is_some()
-}
-
-/// Of the recording of a network: has it frames twice, or of the other network?
-fn ask_of_recording(
-    questions: &mut Vec<Question>,
-    inputs: &Inputs<'_>,
-    network: Network,
-) -> Result<(), AllocError> {
-    let (is_twice, mixed) = (are_twice(inputs, network), names_both(inputs, network));
-    if is_twice {
-        questions.push(Question::Twice { network, mixed })?;
-    }
-    if (is_twice && mixed) || is_wiring_told(inputs) {
-        return Ok(());
-    }
-    if let Some(crossing) = crossing_of(inputs, network) {
-        questions.push(Question::Crossed(crossing))?;
-    }
-    Ok(())
-}
-
 /// The questions that links raise: a recording that has frames twice, or frames of the other network, and
 /// clocks that move apart.
 ///
@@ -221,6 +133,10 @@ pub fn link_questions(alloc: Global, inputs: &Inputs<'_>) -> Result<Vec<Question
     let mut questions = Vec::new(alloc);
     ask_of_recording(&mut questions, inputs, Network::A)?;
     ask_of_recording(&mut questions, inputs, Network::B)?;
+    // A step looks like a drift between a frame before it and one after.
+    if !steps_of(alloc, inputs)?.is_empty() {
+        return Ok(questions);
+    }
     let rates = rates_of(alloc, inputs)?;
     if let Some(drift) = drift_of(&rates) {
         questions.push(Question::Drift(drift))?;

@@ -7,6 +7,7 @@ use crate::per_network::PerNetwork;
 use crate::survey::MAX_CONSTANTS;
 use crate::tap_tally::{TapTally, named_network};
 use afdx_frame::{LentFrame, Network, TapFrame, VL_ID_COUNT, VlId};
+use run_fault::WatchFault;
 use std::alloc::{AllocError, Global};
 use vl_config::{Class, Config, Link, class_by};
 
@@ -51,17 +52,19 @@ fn places_of(alloc: Global, links: &[Link]) -> Result<Vec<u16>, AllocError> {
 }
 
 /// The counts of each link, of no frame. Without redundancy management no copy comes later than its frame.
+/// With integrity checking a sender's frames of half of a BAG have other numbers: equal ones are doubles.
 fn tallies_of(alloc: Global, links: &[Link]) -> Result<Vec<LinkTally>, AllocError> {
     let mut tallies = Vec::with_capacity(alloc, links.len())?;
     for link in links {
         let skew = if link.redundancy { link.skew } else { 0 };
-        tallies.push(LinkTally::new(skew))?;
+        let near = if link.integrity { link.bag / 2 } else { 0 };
+        tallies.push(LinkTally::new(alloc, skew, near))?;
     }
     Ok(tallies)
 }
 
 impl<'a> Listed<'a> {
-    fn new(alloc: Global, config: &'a Config) -> Result<Listed<'a>, AllocError> {
+    fn new(alloc: Global, config: &'a Config, expected: &[u16]) -> Result<Listed<'a>, AllocError> {
         let links = config.links();
         Ok(Listed {
             constant: config.constant(),
@@ -70,7 +73,7 @@ impl<'a> Listed<'a> {
             tallies: tallies_of(alloc, links)?,
             unlisted: vec![in alloc; 0; VL_ID_COUNT]?,
             constants: Vec::new(alloc),
-            kinds: Kinds::new(alloc),
+            kinds: Kinds::new(alloc, expected)?,
         })
     }
 
@@ -92,15 +95,20 @@ impl<'a> Listed<'a> {
         let class = class_by(self.constant, smax, frame);
         match class {
             Class::Cut | Class::Runt | Class::Oversize => {}
-            Class::Foreign => {
-                let constant = frame.view().constant().unwrap_or(0);
-                see_constant(&mut self.constants, constant)?;
-                self.kinds.see(ethertype_of(frame.view().bytes()))?;
-            }
+            Class::Foreign => self.see_foreign(frame)?,
             Class::Unconfigured => self.see_unlisted(frame),
-            Class::TooLong | Class::Regular => self.see_link(place, frame),
+            Class::TooLong | Class::Regular => self.see_link(place, frame)?,
         }
         Ok(class)
+    }
+
+    fn see_foreign(&mut self, frame: &LentFrame<'_>) -> Result<(), AllocError> {
+        let is_expected = self.kinds.see(ethertype_of(frame.view().bytes()))?;
+        if is_expected {
+            return Ok(());
+        }
+        let constant = frame.view().constant().unwrap_or(0);
+        see_constant(&mut self.constants, constant)
     }
 
     #[inline]
@@ -113,14 +121,16 @@ impl<'a> Listed<'a> {
     }
 
     #[inline]
-    fn see_link(&mut self, place: usize, frame: &LentFrame<'_>) {
-        let number = frame.view().sequence().unwrap_or(0);
-        if let Some(tally) = self.tallies.get_mut(place) {
-            tally.see(frame.network(), frame.stamp(), number);
-            if let Some(named) = named_network(frame.view().bytes()) {
-                tally.see_source(frame.network(), named);
-            }
+    fn see_link(&mut self, place: usize, frame: &LentFrame<'_>) -> Result<(), AllocError> {
+        let (network, stamp) = (frame.network(), frame.stamp());
+        let view = frame.view();
+        let Some(tally) = self.tallies.get_mut(place) else {
+            return Ok(());
+        };
+        if let Some(named) = named_network(view.bytes()) {
+            tally.see_source(network, named);
         }
+        tally.see(network, stamp, view.sequence().unwrap_or(0), view.bytes())
     }
 }
 
@@ -141,14 +151,18 @@ fn see_constant(constants: &mut Vec<Constant>, constant: u32) -> Result<(), Allo
 }
 
 impl<'a> Inputs<'a> {
-    /// Of no frame.
+    /// Of no frame. Foreign frames of some EtherTypes are expected; 0 stands for a length.
     ///
     /// # Errors
     ///
     /// `AllocError` if the system is out of memory.
-    pub fn new(alloc: Global, config: Option<&'a Config>) -> Result<Inputs<'a>, AllocError> {
+    pub fn new(
+        alloc: Global,
+        config: Option<&'a Config>,
+        expected: &[u16],
+    ) -> Result<Inputs<'a>, AllocError> {
         let listed = match config {
-            Some(config) => Some(Listed::new(alloc, config)?),
+            Some(config) => Some(Listed::new(alloc, config, expected)?),
             None => None,
         };
         Ok(Inputs {
@@ -198,6 +212,11 @@ impl<'a> Inputs<'a> {
         }
     }
 
+    /// How many foreign frames are expected.
+    pub(crate) fn expected(&self) -> u64 {
+        self.kinds().map_or(0, |kinds| kinds.expected_frames())
+    }
+
     /// The first constant fields that were met beside the table's, in the order of their first frames.
     pub(crate) fn constants(&self) -> &[Constant] {
         match &self.listed {
@@ -215,7 +234,7 @@ impl Observer for Inputs<'_> {
     }
 
     #[inline]
-    fn see(&mut self, _alloc: Global, frame: &LentFrame<'_>) -> Result<(), AllocError> {
+    fn see(&mut self, _alloc: Global, frame: &LentFrame<'_>) -> Result<(), WatchFault> {
         let class = match &mut self.listed {
             Some(listed) => Some(listed.see(frame)?),
             None => None,

@@ -18,6 +18,8 @@ pub struct Kind {
 /// Frames by EtherType.
 #[derive(Drop)]
 pub struct Kinds {
+    /// Those that are expected.
+    expected: Vec<Kind>,
     kinds: Vec<Kind>,
     others: u64,
 }
@@ -33,37 +35,67 @@ pub(crate) fn ethertype_of(bytes: &[u8]) -> u16 {
     }
 }
 
+/// Counts a frame, if its EtherType is one of these.
+fn is_counted(kinds: &mut Vec<Kind>, ethertype: u16) -> bool {
+    let held = kinds.iter_mut().find(|held| held.ethertype == ethertype);
+    if let Some(held) = held {
+        held.frames = held.frames.saturating_add(1);
+        return true;
+    }
+    false
+}
+
 impl Kinds {
-    /// Of no frame.
-    pub(crate) fn new(alloc: Global) -> Kinds {
-        Kinds {
+    /// Of no frame. Frames of some EtherTypes are expected; 0 stands for a length.
+    pub(crate) fn new(alloc: Global, ethertypes: &[u16]) -> Result<Kinds, AllocError> {
+        let mut expected = Vec::new(alloc);
+        for ethertype in ethertypes {
+            expected.push(Kind {
+                ethertype: *ethertype,
+                frames: 0,
+            })?;
+        }
+        Ok(Kinds {
+            expected,
             kinds: Vec::new(alloc),
             others: 0,
-        }
+        })
     }
 
-    /// Counts a frame of an EtherType.
-    pub(crate) fn see(&mut self, ethertype: u16) -> Result<(), AllocError> {
-        let held = self
-            .kinds
-            .iter_mut()
-            .find(|held| held.ethertype == ethertype);
-        if let Some(held) = held {
-            held.frames = held.frames.saturating_add(1);
-            return Ok(());
+    /// Counts a frame of an EtherType. False: it isn't expected.
+    pub(crate) fn see(&mut self, ethertype: u16) -> Result<bool, AllocError> {
+        if is_counted(&mut self.expected, ethertype) {
+            return Ok(true);
+        }
+        if is_counted(&mut self.kinds, ethertype) {
+            return Ok(false);
         }
         if self.kinds.len() >= MAX_KINDS {
             self.others = self.others.saturating_add(1);
-            return Ok(());
+            return Ok(false);
         }
         self.kinds.push(Kind {
             ethertype,
             frames: 1,
         })?;
-        Ok(())
+        Ok(false)
     }
 
-    /// The first kinds that were met, in the order of their first frames.
+    /// The kinds that are expected, with their frames.
+    pub fn expected(&self) -> &[Kind] {
+        self.expected.as_slice()
+    }
+
+    /// How many frames are of them.
+    pub fn expected_frames(&self) -> u64 {
+        let mut frames = 0u64;
+        for kind in &self.expected {
+            frames = frames.saturating_add(kind.frames);
+        }
+        frames
+    }
+
+    /// The first other kinds that were met, in the order of their first frames.
     pub fn kinds(&self) -> &[Kind] {
         self.kinds.as_slice()
     }

@@ -20,6 +20,12 @@ impl LastFrames {
         }
     }
 
+    /// The last frame on a network.
+    #[inline(always)]
+    pub(crate) fn of(&self, network: Network) -> Option<Sample> {
+        *self.last.of(network)
+    }
+
     /// Notes a frame.
     #[inline(always)]
     pub(crate) fn see(&mut self, network: Network, sample: Sample) {

@@ -4,9 +4,14 @@ ghost use Rattle.std.specs.Prelude.{◌≤◌};
 
 use crate::clocks::{Meeting, Sample, first_meeting};
 use crate::copies::Copies;
+use crate::course::Course;
+use crate::doubles::Doubles;
 use crate::last::LastFrames;
 use crate::per_network::PerNetwork;
+use crate::silences::Silences;
+use crate::unlike::Unlike;
 use afdx_frame::{Network, Stamp};
+use std::alloc::{AllocError, Global};
 
 /// How many of a link's first frames are kept, on each network.
 const STARTS: usize = 32;
@@ -55,11 +60,15 @@ pub struct LinkTally {
     last: LastFrames,
     /// How many frames on each network have a source address that names the other.
     crossed: PerNetwork<u64>,
+    doubles: PerNetwork<Doubles>,
+    silences: PerNetwork<Silences>,
+    course: Course,
+    unlike: Unlike,
 }
 
 impl LinkTally {
-    /// Of no frame. A copy comes at most so many nanoseconds after the first frame.
-    pub(crate) fn new(skew: u64) -> LinkTally {
+    /// Of no frame. A copy comes at most `skew` nanoseconds after the first frame, a double less than `near`.
+    pub(crate) fn new(alloc: Global, skew: u64, near: u64) -> LinkTally {
         LinkTally {
             starts: PerNetwork {
                 a: Starts::new(),
@@ -68,19 +77,92 @@ impl LinkTally {
             copies: Copies::within(skew),
             last: LastFrames::new(),
             crossed: PerNetwork { a: 0, b: 0 },
+            doubles: PerNetwork {
+                a: Doubles::within(alloc, near),
+                b: Doubles::within(alloc, near),
+            },
+            silences: PerNetwork {
+                a: Silences::new(),
+                b: Silences::new(),
+            },
+            course: Course::new(),
+            unlike: Unlike::new(),
         }
     }
 
     /// Counts a frame with this sequence number.
+    ///
+    /// # Errors
+    ///
+    /// `AllocError` if there is no memory for its bytes.
     #[inline]
-    pub(crate) fn see(&mut self, network: Network, stamp: Stamp, number: u8) {
+    pub(crate) fn see(
+        &mut self,
+        network: Network,
+        stamp: Stamp,
+        number: u8,
+        bytes: &[u8],
+    ) -> Result<(), AllocError> {
         let sample = Sample {
             stamp: stamp.0,
             number,
         };
         self.starts.of_mut(network).see(sample);
-        self.copies.see(network, number, stamp);
+        self.silences.of_mut(network).see(sample);
+        let skew = self.copies.see(network, number, stamp);
+        if let Some(skew) = skew {
+            self.see_meeting(network, sample, skew);
+        }
+        if self.copies.is_copy(skew) {
+            self.see_copy(network, sample, bytes);
+        }
         self.last.see(network, sample);
+        self.doubles.of_mut(network).see(bytes, stamp)
+    }
+
+    /// Notes a frame that comes so much later than the same of the other network.
+    #[inline]
+    fn see_meeting(&mut self, network: Network, sample: Sample, skew: u64) {
+        let other = Sample {
+            stamp: sample.stamp.saturating_sub(skew),
+            number: sample.number,
+        };
+        self.course.see(Meeting::of(network, sample, other));
+    }
+
+    /// Compares a copy with its frame, where that is the last one of the other network.
+    #[inline]
+    fn see_copy(&mut self, network: Network, sample: Sample, bytes: &[u8]) {
+        let other = network.other();
+        let is_last = match self.last.of(other) {
+            Some(last) => last.number == sample.number,
+            None => false,
+        };
+        if let Some(frame) = self.doubles.of(other).bytes()
+            && is_last
+        {
+            self.unlike.see(frame, bytes, Stamp(sample.stamp));
+        }
+    }
+
+    /// The frames on a network that have all bytes of the one before.
+    pub(crate) fn doubles(&self, on: Network) -> &Doubles {
+        self.doubles.of(on)
+    }
+
+    /// The silences on a network.
+    pub(crate) fn silences(&self, on: Network) -> &Silences {
+        self.silences.of(on)
+    }
+
+    /// Frames that both networks have, from the first on.
+    pub(crate) fn course(&self) -> &[Meeting] {
+        self.course.as_slice()
+    }
+
+    /// The copies that were compared with their frames.
+    pub(crate) fn unlike(&self) -> &Unlike {
+        &self.unlike
     }
 
     /// Notes the network that the source address of a frame on a network names.

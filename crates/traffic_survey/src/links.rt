@@ -51,7 +51,7 @@ impl LinkSurvey {
             Network::A => self.a.see(stamp, frame.whole(), number),
             Network::B => self.b.see(stamp, frame.whole(), number),
         }
-        self.copies.see(network, number, stamp);
+        let _skew = self.copies.see(network, number, stamp);
     }
 }
 

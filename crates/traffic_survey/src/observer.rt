@@ -1,10 +1,11 @@
 //! What is shown the frames of recordings.
 
 use afdx_frame::{LentFrame, TapFrame};
+use run_fault::WatchFault;
 use std::alloc::{AllocError, Global};
 
 /// An observer is shown the frames of both recordings, in the order of timestamp, network and number.
-pub(crate) trait Observer {
+pub trait Observer {
     /// The part of a frame that waits until it is shown: all but some of its bytes.
     ///
     /// # Errors
@@ -16,6 +17,6 @@ pub(crate) trait Observer {
     ///
     /// # Errors
     ///
-    /// `AllocError` if the system is out of memory.
-    fn see(&mut self, alloc: Global, frame: &LentFrame<'_>) -> Result<(), AllocError>;
+    /// `Memory` if the system is out of memory; `Write` if the observer writes, and can't.
+    fn see(&mut self, alloc: Global, frame: &LentFrame<'_>) -> Result<(), WatchFault>;
 }

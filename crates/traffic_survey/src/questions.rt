@@ -7,9 +7,17 @@ use crate::decide::{
 };
 use crate::drift::Drift;
 use crate::inputs::{Constant, Inputs};
+use crate::link::LinkTally;
+use crate::steps::{Step, steps_of};
 use crate::tap_tally::TapTally;
 use afdx_frame::{Network, Stamp, VlId};
 use std::alloc::{AllocError, Global};
+
+/// Of so many frames on both networks at least some have copies.
+const LEAST_FRAMES: u64 = 8;
+
+/// So many links without a copy at least say that clocks are apart by rounds of numbers.
+const LEAST_LONELY: u64 = 2;
 
 /// How far the clock of one tap is ahead of the other's.
 #[derive(Clone, Copy)]
@@ -23,9 +31,9 @@ pub struct Difference {
     pub of: usize,
 }
 
-/// Frames on a network whose source addresses name the other one.
+/// Frames of a network that a question is of.
 #[derive(Clone, Copy)]
-pub struct Crossing {
+pub struct Affected {
     pub network: Network,
     pub frames: u64,
     /// How many frames of the table's links there are on it.
@@ -36,6 +44,23 @@ pub struct Crossing {
     /// When the first and the last of these frames came.
     pub first: Stamp,
     pub last: Stamp,
+}
+
+impl Affected {
+    /// These frames, after those of links before.
+    pub(crate) fn after(self, before: Option<Affected>) -> Affected {
+        let Some(before) = before else {
+            return self;
+        };
+        Affected {
+            frames: before.frames.saturating_add(self.frames),
+            link: before.link,
+            links: before.links.saturating_add(self.links),
+            first: Stamp(before.first.0.min(self.first.0)),
+            last: Stamp(before.last.0.max(self.last.0)),
+            ..self
+        }
+    }
 }
 
 /// The questions: each is of something that looks wrong.
@@ -85,10 +110,21 @@ pub enum Question {
         network: Network,
         mixed: bool,
     },
+    /// Frames of a network have all bytes of the one before, at nearly its time.
+    Doubled(Affected),
     /// Frames of a network have source addresses of the other one.
-    Crossed(Crossing),
+    Crossed(Affected),
+    /// The copies of links have other bytes than their frames; `network` says nothing.
+    Unlike(Affected),
+    /// A clock was set while it recorded.
+    Stepped(Step),
     /// The clocks move apart.
     Drift(Drift),
+    /// So many links have no copy, though most frames have one: the clocks may be apart by rounds of numbers.
+    Rounds {
+        lonely: u64,
+        difference: Difference,
+    },
     /// Under half of the frames have a copy; the sequence numbers may say how far the clocks are apart.
     Clocks(Option<Difference>),
 }
@@ -121,6 +157,14 @@ struct Pairs {
     copies: u64,
     met: usize,
     beyond: Vec<Meeting>,
+    /// How many links have frames on both networks, and no copy.
+    lonely: u64,
+}
+
+/// Has a link frames on both networks, and no copy?
+fn is_lonely(tally: &LinkTally) -> bool {
+    let least = tally.frames(Network::A).min(tally.frames(Network::B));
+    least >= LEAST_FRAMES && tally.copies() == 0
 }
 
 fn pairs_of(alloc: Global, inputs: &Inputs<'_>) -> Result<Pairs, AllocError> {
@@ -130,6 +174,7 @@ fn pairs_of(alloc: Global, inputs: &Inputs<'_>) -> Result<Pairs, AllocError> {
         copies: 0,
         met: 0,
         beyond: Vec::new(alloc),
+        lonely: 0,
     };
     for (link, tally) in inputs.links().iter().zip(inputs.tallies()) {
         if !link.redundancy {
@@ -138,6 +183,9 @@ fn pairs_of(alloc: Global, inputs: &Inputs<'_>) -> Result<Pairs, AllocError> {
         pairs.a = pairs.a.saturating_add(tally.frames(Network::A));
         pairs.b = pairs.b.saturating_add(tally.frames(Network::B));
         pairs.copies = pairs.copies.saturating_add(tally.copies());
+        if is_lonely(tally) {
+            pairs.lonely = pairs.lonely.saturating_add(1);
+        }
         if let Some(meeting) = tally.meeting() {
             pairs.met = pairs.met.saturating_add(1);
             if link.skew < meeting.b.abs_diff(meeting.a) {
@@ -167,18 +215,40 @@ fn difference_of(pairs: &Pairs) -> Option<Difference> {
     })
 }
 
-/// Are the clocks apart?
+/// Are the clocks apart by rounds of numbers, so that links pair, but for some?
+fn ask_of_rounds(
+    questions: &mut Vec<Question>,
+    pairs: &Pairs,
+    difference: Option<Difference>,
+) -> Result<(), AllocError> {
+    let Some(difference) = difference else {
+        return Ok(());
+    };
+    let lonely = pairs.lonely;
+    let do_all_say = is_nearly_all(difference.links as u64, difference.of as u64);
+    let rounds = Question::Rounds { lonely, difference };
+    ask_if(questions, lonely >= LEAST_LONELY && do_all_say, rounds)
+}
+
+/// Are the clocks apart, or was one set?
 fn ask_of_clocks(
     alloc: Global,
     questions: &mut Vec<Question>,
     inputs: &Inputs<'_>,
     overlap: Option<Overlap>,
 ) -> Result<(), AllocError> {
-    let pairs = pairs_of(alloc, inputs)?;
-    if !are_copies_few(pairs.copies, pairs.a, pairs.b) {
+    let steps = steps_of(alloc, inputs)?;
+    for step in &steps {
+        questions.push(Question::Stepped(*step))?;
+    }
+    if !steps.is_empty() {
         return Ok(());
     }
+    let pairs = pairs_of(alloc, inputs)?;
     let difference = difference_of(&pairs);
+    if !are_copies_few(pairs.copies, pairs.a, pairs.b) {
+        return ask_of_rounds(questions, &pairs, difference);
+    }
     let none = pairs.copies == 0 && overlap == Some(Overlap::Together);
     let are_apart = difference.is_some() || none;
     ask_if(questions, are_apart, Question::Clocks(difference))
@@ -218,14 +288,26 @@ fn ask_of_networks(
     ask_if(questions, are_apart, Question::Apart)
 }
 
+/// Have nearly all frames another constant field than the table's? Those that are expected don't count.
+fn ask_of_constant(
+    questions: &mut Vec<Question>,
+    inputs: &Inputs<'_>,
+    all: u64,
+) -> Result<(), AllocError> {
+    let (a, b) = (inputs.tap(Network::A), inputs.tap(Network::B));
+    let expected = inputs.expected();
+    let of = all.saturating_sub(expected);
+    let frames = a.foreign.saturating_add(b.foreign).saturating_sub(expected);
+    let most = most_common(inputs.constants());
+    let foreign = Question::Constant { frames, of, most };
+    ask_if(questions, is_nearly_all(frames, of), foreign)
+}
+
 /// True if the frames are those of the table. Do they end with check sequences?
 fn ask_of_frames(questions: &mut Vec<Question>, inputs: &Inputs<'_>) -> Result<bool, AllocError> {
     let (a, b) = (inputs.tap(Network::A), inputs.tap(Network::B));
     let of = a.frames().saturating_add(b.frames());
-    let frames = a.foreign.saturating_add(b.foreign);
-    let most = most_common(inputs.constants());
-    let foreign = Question::Constant { frames, of, most };
-    ask_if(questions, is_nearly_all(frames, of), foreign)?;
+    ask_of_constant(questions, inputs, of)?;
     let (of_a, of_b) = (has_checks(a), has_checks(b));
     ask_if(questions, of_a, Question::CheckSequence(Network::A))?;
     ask_if(questions, of_b, Question::CheckSequence(Network::B))?;
@@ -235,7 +317,42 @@ fn ask_of_frames(questions: &mut Vec<Question>, inputs: &Inputs<'_>) -> Result<b
     // Frames with their check sequence or a tag are too long by that.
     let are_too_long = !of_a && !of_b && !are_tagged && is_nearly_all(frames, of);
     ask_if(questions, are_too_long, Question::TooLong { frames, of })?;
+    ask_of_copies(questions, inputs, of_a || of_b || are_tagged)?;
     Ok(of_a || of_b)
+}
+
+/// Have copies other bytes than their frames? Of frames with check sequences or tags they have.
+fn ask_of_copies(
+    questions: &mut Vec<Question>,
+    inputs: &Inputs<'_>,
+    is_known: bool,
+) -> Result<(), AllocError> {
+    let mut unlike: Option<Affected> = None;
+    let mut of = 0u64;
+    for (link, tally) in inputs.links().iter().zip(inputs.tallies()) {
+        let more = tally.unlike();
+        of = of.saturating_add(more.of);
+        if more.frames > 0 {
+            let more = Affected {
+                network: Network::B,
+                frames: more.frames,
+                of: 0,
+                link: link.id,
+                links: 1,
+                first: more.first,
+                last: more.last,
+            };
+            unlike = Some(more.after(unlike));
+        }
+    }
+    match unlike {
+        Some(unlike) => ask_if(
+            questions,
+            !is_known,
+            Question::Unlike(Affected { of, ..unlike }),
+        ),
+        None => Ok(()),
+    }
 }
 
 /// Have nearly all frames of a recording a tag?

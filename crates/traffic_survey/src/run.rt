@@ -10,7 +10,7 @@ use crate::survey::Survey;
 use frame_batch::Round;
 use pcap_io::TapSource;
 use run_fault::{MAX_FRAMES, WatchFault};
-use std::alloc::{AllocError, Global};
+use std::alloc::Global;
 
 /// A pass that has ended, with the sources that it was given.
 #[derive(Drop)]
@@ -46,7 +46,7 @@ fn show_round<O: Observer>(
     alloc: Global,
     round: &Round,
     observer: &mut O,
-) -> Result<(), AllocError> {
+) -> Result<(), WatchFault> {
     for index in 0..round.len() {
         observer.see(alloc, &round.frame(index))?;
     }
@@ -63,15 +63,18 @@ fn show_rounds<S: TapSource, O: Observer>(
         let Some(round) = pair.next_round(alloc, observer)? else {
             break;
         };
-        if show_round(alloc, &round, observer).is_err() {
-            return Err(WatchFault::Memory);
-        }
+        show_round(alloc, &round, observer)?;
     }
     Ok(())
 }
 
 /// Reads both recordings once, as far as it is told, and shows what is kept of their frames to the observer.
-fn show_both<S: TapSource, O: Observer>(
+/// Both sources come back.
+///
+/// # Errors
+///
+/// `Header` or `Read` if a recording can't be opened, `Read`, `Memory` or the observer's own later.
+pub fn show_both<S: TapSource, O: Observer>(
     alloc: Global,
     extent: Extent,
     a: S,

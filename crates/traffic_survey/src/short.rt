@@ -5,6 +5,7 @@ use crate::links::MAX_LINKS;
 use crate::observer::Observer;
 use crate::survey::{Survey, is_ethernet};
 use afdx_frame::{FrameBytes, LentFrame, TapFrame, VL_ID_COUNT};
+use run_fault::WatchFault;
 use std::alloc::{AllocError, Global};
 use std::sync::Arc;
 
@@ -119,7 +120,8 @@ impl Observer for ShortSurvey {
     }
 
     #[inline]
-    fn see(&mut self, alloc: Global, frame: &LentFrame<'_>) -> Result<(), AllocError> {
-        self.survey.see(alloc, frame)
+    fn see(&mut self, alloc: Global, frame: &LentFrame<'_>) -> Result<(), WatchFault> {
+        self.survey.see(alloc, frame)?;
+        Ok(())
     }
 }

@@ -1,9 +1,11 @@
 //! What is counted of one recording, whatever its links.
 
 use crate::checksum::ends_with_check;
+use crate::clocks::Sample;
 use crate::crossed::Crossed;
 use crate::decide::Marks;
 use crate::kinds::ethertype_of;
+use crate::silences::Silences;
 use afdx_frame::{LentFrame, Network, Stamp};
 use vl_config::Class;
 
@@ -34,6 +36,8 @@ pub struct TapTally {
     pub(crate) unlisted: u64,
     /// Frames of the table's links whose source address names a network, by which.
     pub(crate) crossed: Crossed,
+    /// When frames of the table's links came.
+    pub(crate) silences: Silences,
     /// Frames with an 802.1Q tag.
     pub(crate) tagged: u64,
     /// Frames that the recording doesn't hold whole, and the most bytes that it holds of one of them.
@@ -60,6 +64,7 @@ impl TapTally {
             long: 0,
             unlisted: 0,
             crossed: Crossed::new(),
+            silences: Silences::new(),
             tagged: 0,
             cut: 0,
             snaplen: 0,
@@ -89,6 +94,10 @@ impl TapTally {
     #[inline]
     fn see_listed(&mut self, on: Network, bytes: &[u8], stamp: Stamp) {
         self.crossed.see(on, named_network(bytes), stamp);
+        self.silences.see(Sample {
+            stamp: stamp.0,
+            number: 0,
+        });
     }
 
     /// Counts a frame by its class, of which so many bytes are held.

@@ -35,7 +35,8 @@ pub struct Observed {
 }
 
 impl Observed {
-    ghost use Rattle.transit_policing.specs.Charges.{Charge, StandsAfter, charged, debt_with, is_over_debt, verdict_by, verdict_of};
+    ghost use Rattle.transit_policing.specs.Charges.{Charge, StandsAfter, charged, debt_with};
+    ghost use Rattle.transit_policing.specs.Charges.{is_over_debt, verdict_by, verdict_of};
 
     /// The account of a link at its first frame, at the moment `first`: Smax in bytes, the most that it
     /// holds, and by how many nanoseconds the time between two frames may be off.

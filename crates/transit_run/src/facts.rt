@@ -8,6 +8,9 @@ pub(crate) struct LinkFacts {
     pub(crate) first_in: Option<u64>,
     pub(crate) first_out: Option<u64>,
     pub(crate) order: Option<Order>,
+    /// The rows of dropped and of new frames in which one of the link stands last.
+    pub(crate) dropped_in: Option<u64>,
+    pub(crate) new_in: Option<u64>,
 }
 
 impl LinkFacts {
@@ -17,6 +20,8 @@ impl LinkFacts {
             first_in: None,
             first_out: None,
             order: None,
+            dropped_in: None,
+            new_in: None,
         }
     }
 

@@ -1,34 +1,94 @@
 //! What is kept of one link, or of all frames that have none.
 
+use crate::facts::LinkFacts;
 use crate::latency::Latency;
 use crate::options::Options;
+use crate::outcome::Fate;
 use crate::policer::Policer;
 use crate::tally::Tally;
+use afdx_frame::VlId;
 use std::alloc::Global;
 use transit_match::Waiting;
 use vl_config::Link;
 
+/// The frames of one link, or of all frames whose bytes hold none.
+#[derive(Clone, Copy)]
+pub struct LinkTransits<'a> {
+    pub id: Option<VlId>,
+    pub tally: &'a Tally,
+    pub latency: &'a Latency,
+    /// The most frames in a row that were dropped.
+    pub row: u64,
+    /// When the first frame with a fault went in or came out, in nanoseconds.
+    pub first_fault: Option<u64>,
+}
+
 /// Frames of one lane can be each other; no frame of another lane can.
 #[derive(Drop)]
 pub(crate) struct Lane {
+    /// None: it is that of all frames whose bytes hold no link.
+    pub(crate) link: Option<VlId>,
     /// By their bytes.
     pub(crate) alike: Waiting<Vec<u8>>,
     /// By their links and sequence numbers, those that have no partner with their bytes.
     pub(crate) placed: Waiting<u32>,
     pub(crate) policer: Option<Policer>,
+    pub(crate) facts: LinkFacts,
     pub(crate) latency: Latency,
     pub(crate) tally: Tally,
+    /// How many frames in a row were dropped last, and the most.
+    row: u64,
+    pub(crate) most_in_a_row: u64,
+    /// When the first frame with a fault went in or came out, in nanoseconds.
+    pub(crate) first_fault: Option<u64>,
 }
 
 impl Lane {
-    /// Of no frame.
-    pub(crate) fn new(alloc: Global, link: Option<&Link>, options: &Options) -> Lane {
+    /// Of no frame of a link of the table, of another one, or of none.
+    pub(crate) fn new(
+        alloc: Global,
+        id: Option<VlId>,
+        link: Option<&Link>,
+        options: &Options,
+    ) -> Lane {
         Lane {
+            link: id,
             alike: Waiting::new(alloc, options.window()),
             placed: Waiting::new(alloc, options.window()),
             policer: link.map(Policer::new),
+            facts: LinkFacts::new(),
             latency: Latency::new(alloc),
             tally: Tally::new(),
+            row: 0,
+            most_in_a_row: 0,
+            first_fault: None,
+        }
+    }
+
+    /// A frame that went in has this fate, and came out or didn't.
+    pub(crate) fn note_fate(&mut self, fate: Fate, came_out: bool) {
+        self.tally.count_fate(fate);
+        if fate == Fate::Dropped {
+            self.row = self.row.saturating_add(1);
+            self.most_in_a_row = self.most_in_a_row.max(self.row);
+        } else if came_out {
+            self.row = 0;
+        }
+    }
+
+    /// A frame has a fault at this moment.
+    pub(crate) fn note_fault(&mut self, moment: u64) {
+        self.first_fault = Some(self.first_fault.unwrap_or(moment));
+    }
+
+    /// The frames of the lane.
+    pub(crate) fn transits(&self) -> LinkTransits<'_> {
+        LinkTransits {
+            id: self.link,
+            tally: &self.tally,
+            latency: &self.latency,
+            row: self.most_in_a_row,
+            first_fault: self.first_fault,
         }
     }
 }

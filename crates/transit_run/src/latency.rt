@@ -63,6 +63,20 @@ impl Latency {
         Ok(())
     }
 
+    /// Their mean, rounded down. None: there is none.
+    pub fn mean(&self) -> Option<i64> {
+        if self.count == 0 {
+            return None;
+        }
+        let mean = self.sum.div_euclid(i128::from(self.count));
+        i64::try_from(mean).ok()
+    }
+
+    /// How many transits there are of each length, rounded, from the shortest on.
+    pub fn bins(&self) -> &BTreeMap<i64, u64> {
+        &self.bins
+    }
+
     /// The length, rounded, that so many of a thousand transits don't exceed. None: there is none.
     pub fn rank(&self, thousandths: u64) -> Option<i64> {
         let mut left = u128::from(self.count) * u128::from(thousandths);

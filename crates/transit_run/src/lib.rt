@@ -7,6 +7,8 @@
 #![tactic(auto)]
 
 mod facts;
+mod floor;
+mod kind;
 mod lane;
 mod latency;
 mod line;
@@ -16,11 +18,15 @@ mod outcome;
 mod pass;
 mod policer;
 mod rows;
+mod silence;
 mod summary;
 mod tally;
 
+pub use kind::{FaultFrame, Faults, Kind, KindTally};
+pub use lane::LinkTransits;
 pub use latency::Latency;
 pub use options::Options;
 pub use outcome::{Fate, Origin, Pair, Passage, fate_of, origin_of};
 pub use pass::Pass;
+pub use silence::Silence;
 pub use tally::Tally;

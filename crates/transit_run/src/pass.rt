@@ -1,12 +1,15 @@
 //! The pass over both recordings.
 
-use crate::facts::{LinkFacts, Span, covers, is_by};
-use crate::lane::Lane;
+use crate::facts::{Span, covers, is_by};
+use crate::floor::Floor;
+use crate::kind::{FaultFrame, Faults, Kind};
+use crate::lane::{Lane, LinkTransits};
 use crate::latency::Latency;
 use crate::line::{write_come_out, write_gone_in};
 use crate::options::Options;
 use crate::outcome::{Fate, Origin, Pair, Passage, fate_of, origin_of};
 use crate::rows::{ComeOut, GoneIn, Head, Partner, first_difference, place_of};
+use crate::silence::{Silence, Silences};
 use crate::summary::{write_links, write_total};
 use crate::tally::Tally;
 use afdx_frame::{LentFrame, Network, VL_ID_COUNT, VlId};
@@ -24,12 +27,11 @@ pub struct Pass<'t> {
     alloc: Global,
     table: &'t Config,
     options: Options,
-    /// Those of the table's links, in its order, and one of all other frames.
+    /// That of all frames whose bytes hold no link, those of the table's links in its order, and those of
+    /// other links in the order in which they are met.
     lanes: Vec<Lane>,
-    /// The place of each identifier's lane.
-    index: Vec<u16>,
-    /// The facts of each identifier.
-    facts: Vec<LinkFacts>,
+    /// The place of each identifier's lane. 0: it has none.
+    index: Vec<u32>,
     befores: VecDeque<GoneIn>,
     /// How many frames that went in have been written.
     written: u64,
@@ -40,10 +42,26 @@ pub struct Pass<'t> {
     settled: usize,
     in_span: Option<Span>,
     out_span: Option<Span>,
+    /// The greatest moment of a frame that was read of each recording, in nanoseconds.
+    read_in: u64,
+    read_out: u64,
     tally: Tally,
     latency: Latency,
+    faults: Faults,
+    /// The times in which nothing came out, and in which nothing was seen to go in.
+    silences_out: Silences,
+    silences_in: Silences,
+    floor: Floor,
+    /// How many frames that went in are foreign, and of links that the table lacks.
+    foreign: u64,
+    unconfigured: u64,
+    /// How many changed frames differ first in the source address's byte that names the network.
+    other_network: u64,
     text: String,
 }
+
+/// The byte of a frame that names its network (ARINC 664 Part 7).
+const NETWORK_BYTE: usize = 11;
 
 /// True if so much time, and more, is past since the moment. None: all of it is.
 fn is_past(now: Option<u64>, moment: u64, time: u64) -> bool {
@@ -70,20 +88,18 @@ fn is_discarded(class: Class) -> bool {
 fn make_lanes(alloc: Global, table: &Config, options: &Options) -> Result<Vec<Lane>, AllocError> {
     let links = table.links();
     let mut lanes = Vec::with_capacity(alloc, links.len().saturating_add(1))?;
+    lanes.push(Lane::new(alloc, None, None, options))?;
     for link in links {
-        lanes.push(Lane::new(alloc, Some(link), options))?;
+        lanes.push(Lane::new(alloc, Some(link.id), Some(link), options))?;
     }
-    lanes.push(Lane::new(alloc, None, options))?;
     Ok(lanes)
 }
 
-fn make_index(alloc: Global, table: &Config) -> Result<Vec<u16>, AllocError> {
-    let links = table.links();
-    let others = u16::try_from(links.len()).unwrap_or(u16::MAX);
-    let mut index = vec![in alloc; others; VL_ID_COUNT]?;
-    for (place, link) in links.iter().enumerate() {
+fn make_index(alloc: Global, table: &Config) -> Result<Vec<u32>, AllocError> {
+    let mut index = vec![in alloc; 0; VL_ID_COUNT]?;
+    for (link, place) in table.links().iter().zip(1..u32::MAX) {
         if let Some(entry) = index.get_mut(usize::from(link.id.0)) {
-            *entry = u16::try_from(place).unwrap_or(others);
+            *entry = place;
         }
     }
     Ok(index)
@@ -98,14 +114,12 @@ impl<'t> Pass<'t> {
     pub fn new(alloc: Global, table: &'t Config, options: Options) -> Result<Pass<'t>, AllocError> {
         let lanes = make_lanes(alloc, table, &options)?;
         let index = make_index(alloc, table)?;
-        let facts = vec![in alloc; LinkFacts::new(); VL_ID_COUNT]?;
         Ok(Pass {
             alloc,
             table,
             options,
             lanes,
             index,
-            facts,
             befores: VecDeque::new(alloc),
             written: 0,
             expired: 0,
@@ -113,13 +127,48 @@ impl<'t> Pass<'t> {
             settled: 0,
             in_span: None,
             out_span: None,
+            read_in: 0,
+            read_out: 0,
             tally: Tally::new(),
             latency: Latency::new(alloc),
+            faults: Faults::new(alloc),
+            silences_out: Silences::new(alloc),
+            silences_in: Silences::new(alloc),
+            floor: Floor::new(alloc),
+            foreign: 0,
+            unconfigured: 0,
+            other_network: 0,
             text: String::new(alloc),
         })
     }
 
-    /// Shows the next frame.
+    /// A frame was read of a recording, and will be shown. Before a frame of one recording is shown, a later
+    /// one of the other has been read, unless that has ended: so it is known which windows both cover.
+    pub fn read(&mut self, network: Network, stamp: u64) {
+        match network {
+            Network::A => self.read_in = self.read_in.max(stamp),
+            Network::B => {
+                let came_out = stamp.saturating_sub(self.options.early);
+                self.read_out = self.read_out.max(came_out);
+            }
+        }
+    }
+
+    /// The recording at the port in, from its first frame to the last that was read.
+    fn in_reach(&self) -> Option<Span> {
+        let Span { first, last } = self.in_span?;
+        let last = last.max(self.read_in);
+        Some(Span { first, last })
+    }
+
+    /// The same of the recording at the port out.
+    fn out_reach(&self) -> Option<Span> {
+        let Span { first, last } = self.out_span?;
+        let last = last.max(self.read_out);
+        Some(Span { first, last })
+    }
+
+    /// Shows the next frame, of which [`read`](Pass::read) told.
     ///
     /// # Errors
     ///
@@ -138,7 +187,8 @@ impl<'t> Pass<'t> {
     ///
     /// `AllocError` if there is no memory for lines.
     pub fn finish(&mut self) -> Result<(), AllocError> {
-        self.settle(None)
+        self.settle(None)?;
+        self.end_rows()
     }
 
     /// Writes the counts and the transits of each link, once no frame follows.
@@ -147,12 +197,8 @@ impl<'t> Pass<'t> {
     ///
     /// `AllocError` if there is no memory for lines.
     pub fn write_links(&mut self) -> Result<(), AllocError> {
-        write_links(
-            &mut self.text,
-            self.table.links(),
-            &self.lanes,
-            &self.latency,
-        )
+        let lanes = self.lanes.get(1..).unwrap_or(&[]);
+        write_links(&mut self.text, self.table.links(), lanes, &self.latency)
     }
 
     /// Writes the counts of all frames: the ledger's last line.
@@ -184,25 +230,129 @@ impl<'t> Pass<'t> {
         &self.latency
     }
 
+    /// The faults so far.
+    pub fn faults(&self) -> &Faults {
+        &self.faults
+    }
+
+    /// The frames of a lane: 0 is that of all frames whose bytes hold no link, then come the table's links in
+    /// its order, and then others.
+    pub fn link(&self, place: usize) -> Option<LinkTransits<'_>> {
+        Some(self.lanes.get(place)?.transits())
+    }
+
+    /// How many links have frames with a fault of this kind; frames that hold no link count as one.
+    pub fn links_with(&self, kind: Kind) -> u64 {
+        let with = self.lanes.iter().filter(|lane| lane.tally.faults(kind) > 0);
+        with.count() as u64
+    }
+
+    /// How many lanes there are.
+    pub fn link_count(&self) -> usize {
+        self.lanes.len()
+    }
+
+    /// The times in which nothing came out, the first hundred.
+    pub fn silences_out(&self) -> &[Silence] {
+        self.silences_out.list()
+    }
+
+    /// The times in which nothing was seen to go in, though frames came out, the first hundred.
+    pub fn silences_in(&self) -> &[Silence] {
+        self.silences_in.list()
+    }
+
+    /// By how many parts of 10^9 the clocks seem to drift. None: they don't.
+    pub fn drift(&self) -> Option<i64> {
+        self.floor.drift()
+    }
+
+    /// How many frames that went in have another constant field than the table's.
+    pub fn foreign(&self) -> u64 {
+        self.foreign
+    }
+
+    /// How many frames that went in are of links that the table lacks.
+    pub fn unconfigured(&self) -> u64 {
+        self.unconfigured
+    }
+
+    /// How many changed frames differ first in the byte of their source address that names the network.
+    pub fn other_network(&self) -> u64 {
+        self.other_network
+    }
+
+    /// The first moment and the last whose windows both recordings cover, in nanoseconds.
+    pub fn common(&self) -> Option<(u64, u64)> {
+        let (went_in, came_out) = (self.in_reach()?, self.out_reach()?);
+        let first = came_out.first.saturating_add(self.options.early);
+        let last = came_out.last.saturating_sub(self.options.within);
+        let (first, last) = (went_in.first.max(first), went_in.last.min(last));
+        if first <= last {
+            Some((first, last))
+        } else {
+            None
+        }
+    }
+
+    /// When the first frame of either recording went in or came out, in nanoseconds.
+    pub fn start(&self) -> Option<u64> {
+        match (self.in_span, self.out_span) {
+            (Some(went_in), Some(came_out)) => Some(went_in.first.min(came_out.first)),
+            (Some(span), None) | (None, Some(span)) => Some(span.first),
+            (None, None) => None,
+        }
+    }
+
+    /// How the recordings are compared.
+    pub fn options(&self) -> &Options {
+        &self.options
+    }
+
+    /// The table of virtual links.
+    pub fn table(&self) -> &'t Config {
+        self.table
+    }
+
     // ---- a frame
 
     /// The place of the lane of a frame that names this link.
     fn lane_place(&self, link: Option<VlId>) -> usize {
-        let others = self.lanes.len().saturating_sub(1);
         match link {
             Some(id) => match self.index.get(usize::from(id.0)) {
-                Some(place) => usize::from(*place),
-                None => others,
+                Some(place) => *place as usize,
+                None => 0,
             },
-            None => others,
+            None => 0,
         }
     }
 
-    fn head_of(&self, frame: &LentFrame<'_>) -> Head {
-        let smax = match self.table.links().get(self.lane_place(frame.link())) {
-            Some(link) => Some(link.smax),
-            None => None,
+    /// The Smax of the link of a frame, where the table has it.
+    fn smax_of(&self, frame: &LentFrame<'_>) -> Option<u32> {
+        let place = self.lane_place(frame.link()).checked_sub(1)?;
+        let link = self.table.links().get(place)?;
+        Some(link.smax)
+    }
+
+    /// Makes the lane of a link that the table lacks, where it has none.
+    fn add_lane(&mut self, head: &Head) -> Result<(), AllocError> {
+        let Some(id) = link_of(head) else {
+            return Ok(());
         };
+        if self.lane_place(Some(id)) > 0 {
+            return Ok(());
+        }
+        let place = u32::try_from(self.lanes.len()).unwrap_or(0);
+        let lane = Lane::new(self.alloc, Some(id), None, &self.options);
+        self.lanes.push(lane)?;
+        if let Some(entry) = self.index.get_mut(usize::from(id.0)) {
+            *entry = place;
+        }
+        Ok(())
+    }
+
+    fn head_of(&self, frame: &LentFrame<'_>) -> Head {
+        let smax = self.smax_of(frame);
         let class = class_by(self.table.constant(), smax, frame);
         let address = match (frame.link(), frame.sequence()) {
             (Some(link), Some(sequence)) if class.is_addressed() => Some((link, sequence)),
@@ -224,6 +374,7 @@ impl<'t> Pass<'t> {
 
     fn goes_in(&mut self, frame: &LentFrame<'_>) -> Result<(), AllocError> {
         let head = self.head_of(frame);
+        self.add_lane(&head)?;
         let bytes = Vec::from_slice(self.alloc, frame.view().bytes())?;
         let key = Vec::from_slice(self.alloc, frame.view().bytes())?;
         let place = self.written.saturating_add(self.befores.len() as u64);
@@ -235,37 +386,34 @@ impl<'t> Pass<'t> {
         })?;
         if let Some(lane) = self.lane_of(&head) {
             lane.tally.before = lane.tally.before.saturating_add(1);
+            lane.facts.first_in = Some(lane.facts.first_in.unwrap_or(head.moment));
             if head.class != Class::Cut {
                 lane.alike.add(head.moment, place, key)?;
             }
         }
         self.in_span = Span::with(self.in_span, head.moment);
         self.tally.before = self.tally.before.saturating_add(1);
-        if let Some(facts) = self.facts_of(&head) {
-            facts.first_in = Some(facts.first_in.unwrap_or(head.moment));
+        match head.class {
+            Class::Foreign => self.foreign = self.foreign.saturating_add(1),
+            Class::Unconfigured => self.unconfigured = self.unconfigured.saturating_add(1),
+            _ => {}
         }
         Ok(())
     }
 
-    fn facts_of(&mut self, head: &Head) -> Option<&mut LinkFacts> {
-        let link = link_of(head)?;
-        self.facts.get_mut(usize::from(link.0))
-    }
-
     fn comes_out(&mut self, frame: &LentFrame<'_>) -> Result<(), AllocError> {
         let head = self.head_of(frame);
+        self.add_lane(&head)?;
         let bytes = Vec::from_slice(self.alloc, frame.view().bytes())?;
         let came_out = head.moment.saturating_sub(self.options.early);
         self.out_span = Span::with(self.out_span, came_out);
         self.tally.after = self.tally.after.saturating_add(1);
-        if let Some(facts) = self.facts_of(&head) {
-            facts.first_out = Some(facts.first_out.unwrap_or(came_out));
-        }
         let mut is_twice = false;
         let mut choices = 0;
         let mut partner = None;
         if let Some(lane) = self.lane_of(&head) {
             lane.tally.after = lane.tally.after.saturating_add(1);
+            lane.facts.first_out = Some(lane.facts.first_out.unwrap_or(came_out));
             if head.class != Class::Cut {
                 partner = lane.alike.take(&bytes, head.moment);
                 is_twice = partner.is_none() && lane.alike.knows(&bytes, head.moment);
@@ -297,9 +445,9 @@ impl<'t> Pass<'t> {
                 differs: None,
             });
         }
-        let overtakes = match self.facts_of(head) {
-            Some(facts) => facts.overtakes(went_in, came_out),
-            None => false,
+        let overtakes = match self.lane_of(head) {
+            Some(lane) if lane.link.is_some() => lane.facts.overtakes(went_in, came_out),
+            _ => false,
         };
         if let Some(row) = self.befores.get_mut(index as usize) {
             row.is_overtaken = overtakes;
@@ -432,16 +580,13 @@ impl<'t> Pass<'t> {
         }
     }
 
-    /// True if a frame without a partner can be judged: the other recording reaches the end of its window,
-    /// or no frame follows.
-    fn is_certain(&self, now: Option<u64>, moment: u64, span: Option<Span>, end: u64) -> bool {
+    /// True if all is known that decides on a frame of this moment.
+    fn is_certain(&self, now: Option<u64>, moment: u64) -> bool {
         is_past(now, moment, self.options.window().saturating_mul(2))
-            && (now.is_none() || span.is_some_and(|span| end <= span.last))
     }
 
     fn write_before(&mut self, now: Option<u64>, moment: u64) -> Result<bool, AllocError> {
-        let end = moment.saturating_add(self.options.within);
-        if !self.is_certain(now, moment, self.out_span, end) {
+        if !self.is_certain(now, moment) {
             return Ok(false);
         }
         let Some(row) = self.befores.pop_front() else {
@@ -462,6 +607,7 @@ impl<'t> Pass<'t> {
         };
         let fate = fate_of(self.passage_of(&row, policed, latency));
         self.count(&row, fate, latency)?;
+        self.note_before(&row, fate)?;
         write_gone_in(&mut self.text, &row, policed, fate, latency)?;
         Ok(true)
     }
@@ -482,11 +628,8 @@ impl<'t> Pass<'t> {
         let link = link_of(head);
         let is_on_a_link = head.class.is_on_a_link();
         let is_elsewhere = link.is_some_and(|link| options.is_routed_elsewhere(link));
-        let first_out = match link {
-            Some(link) => match self.facts.get(usize::from(link.0)) {
-                Some(facts) => facts.first_out,
-                None => None,
-            },
+        let first_out = match self.lanes.get(self.lane_place(link)) {
+            Some(lane) => lane.facts.first_out,
             None => None,
         };
         let has_come = is_by(first_out, head.moment.saturating_add(options.within));
@@ -503,7 +646,7 @@ impl<'t> Pass<'t> {
             is_unsure: policed == Some(Policed::Unsure),
             is_overtaken: row.is_overtaken,
             is_slow: is_over(latency, options.bound),
-            is_covered: covers(self.out_span, head.moment, options.early, options.within),
+            is_covered: covers(self.out_reach(), head.moment, options.early, options.within),
             is_unrouted: is_on_a_link && !is_routed,
         }
     }
@@ -518,9 +661,11 @@ impl<'t> Pass<'t> {
         };
         if let Some(transit) = transit {
             self.latency.add(transit, bound)?;
+            self.floor.note(row.head.moment, transit)?;
         }
+        let came_out = row.partner.is_some();
         if let Some(lane) = self.lane_of(&row.head) {
-            lane.tally.count_fate(fate);
+            lane.note_fate(fate, came_out);
             if let Some(transit) = transit {
                 lane.latency.add(transit, bound)?;
             }
@@ -528,9 +673,76 @@ impl<'t> Pass<'t> {
         Ok(())
     }
 
+    /// Counts a frame that went in among the faults, and in the row of those that didn't come out.
+    fn note_before(&mut self, row: &GoneIn, fate: Fate) -> Result<(), AllocError> {
+        let head = row.head;
+        if row.partner.is_some() {
+            self.end_rows()?;
+        } else if fate == Fate::Dropped {
+            let number = self.silences_out.row;
+            let is_new = match self.lane_of(&head) {
+                Some(lane) => lane.facts.dropped_in.replace(number) != Some(number),
+                None => false,
+            };
+            self.silences_out.note(head.moment, is_new);
+        }
+        if row
+            .partner
+            .is_some_and(|partner| partner.differs == Some(NETWORK_BYTE))
+        {
+            self.other_network = self.other_network.saturating_add(1);
+        }
+        match Kind::of_fate(fate) {
+            Some(kind) => self.note_fault(&head, head.moment, false, kind),
+            None => Ok(()),
+        }
+    }
+
+    /// Counts a frame without a partner that came out among the faults, and in the row of such.
+    fn note_after(&mut self, head: &Head, moment: u64, origin: Origin) -> Result<(), AllocError> {
+        if origin == Origin::New {
+            let number = self.silences_in.row;
+            let is_new = match self.lane_of(head) {
+                Some(lane) => lane.facts.new_in.replace(number) != Some(number),
+                None => false,
+            };
+            self.silences_in.note(moment, is_new);
+        }
+        match Kind::of_origin(origin) {
+            Some(kind) => self.note_fault(head, moment, true, kind),
+            None => Ok(()),
+        }
+    }
+
+    fn note_fault(
+        &mut self,
+        head: &Head,
+        moment: u64,
+        is_after: bool,
+        kind: Kind,
+    ) -> Result<(), AllocError> {
+        if let Some(lane) = self.lane_of(head) {
+            lane.note_fault(moment);
+        }
+        let start = self.start().unwrap_or(moment);
+        let fault = FaultFrame {
+            moment,
+            is_after,
+            number: head.number,
+            address: head.address,
+            kind,
+        };
+        self.faults.note(start, fault)
+    }
+
+    /// A frame has a partner, or none follows: rows of frames without one end.
+    fn end_rows(&mut self) -> Result<(), AllocError> {
+        self.silences_out.end()?;
+        self.silences_in.end()
+    }
+
     fn write_after(&mut self, now: Option<u64>, came_out: u64) -> Result<bool, AllocError> {
-        let end = came_out.saturating_add(self.options.early);
-        if !self.is_certain(now, came_out, self.in_span, end) {
+        if !self.is_certain(now, came_out) {
             return Ok(false);
         }
         let Some(row) = self.afters.pop_front() else {
@@ -541,6 +753,7 @@ impl<'t> Pass<'t> {
             return Ok(true);
         }
         let origin = self.origin_of(&row, came_out);
+        self.note_after(&row.head, came_out, origin)?;
         self.tally.count_origin(origin);
         if let Some(lane) = self.lane_of(&row.head) {
             lane.tally.count_origin(origin);
@@ -551,14 +764,14 @@ impl<'t> Pass<'t> {
 
     fn origin_of(&self, row: &ComeOut, came_out: u64) -> Origin {
         let options = &self.options;
-        let is_elsewhere = match link_of(&row.head) {
-            Some(link) => match self.facts.get(usize::from(link.0)) {
-                Some(facts) => !is_by(facts.first_in, came_out.saturating_add(options.early)),
-                None => true,
-            },
-            None => false,
+        let link = link_of(&row.head);
+        let first_in = match self.lanes.get(self.lane_place(link)) {
+            Some(lane) => lane.facts.first_in,
+            None => None,
         };
-        let is_covered = covers(self.in_span, came_out, options.within, options.early);
+        let has_gone = is_by(first_in, came_out.saturating_add(options.early));
+        let is_elsewhere = link.is_some() && !has_gone;
+        let is_covered = covers(self.in_reach(), came_out, options.within, options.early);
         origin_of(
             row.head.class == Class::Cut,
             row.is_twice,

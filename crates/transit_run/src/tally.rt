@@ -1,5 +1,6 @@
 //! Counts of outcomes.
 
+use crate::kind::Kind;
 use crate::outcome::{FATES, Fate, ORIGINS, Origin};
 
 /// How many frames there are of each outcome.
@@ -35,6 +36,20 @@ impl Tally {
     /// How many frames that came out without a partner have this outcome.
     pub fn origins(&self, origin: Origin) -> u64 {
         self.origins[origin.place()]
+    }
+
+    /// How many frames have a fault of this kind.
+    pub fn faults(&self, kind: Kind) -> u64 {
+        match kind {
+            Kind::Dropped => self.fates(Fate::Dropped),
+            Kind::Lax => self.fates(Fate::Lax),
+            Kind::Leak => self.fates(Fate::Leak),
+            Kind::Slow => self.fates(Fate::Slow),
+            Kind::Overtaken => self.fates(Fate::Overtaken),
+            Kind::Changed => self.fates(Fate::Changed),
+            Kind::Twice => self.origins(Origin::Twice),
+            Kind::New => self.origins(Origin::New),
+        }
     }
 
     /// How many lines the frames have: each that went in, and each without a partner that came out.

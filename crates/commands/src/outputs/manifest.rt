@@ -78,7 +78,7 @@ fn record_of(
 fn recording_if(
     alloc: Global,
     (path, tap): (Option<&str>, &Tap),
-    sums: &Option<Vec<Sum>>,
+    (sums, dropped): (&Option<Vec<Sum>>, u64),
     ending: Option<Ending>,
     span: Option<Span>,
 ) -> Result<Option<RecordingRecord>, AllocError> {
@@ -86,6 +86,9 @@ fn recording_if(
         return Ok(None);
     };
     let mut record = record_of(alloc, path, tap, sums)?;
+    if dropped > 0 {
+        record.dropped = Some(dropped);
+    }
     let Some(ending) = ending else {
         return Ok(Some(record));
     };
@@ -101,12 +104,13 @@ fn recording_if(
 }
 
 fn inputs_of(
-    alloc: Global,
+    rt: &HostRuntime,
     (given, taps): (&WatchArguments<'_>, &Taps),
     texts: TextSums,
     exit: &Exit,
     sums: &RunSums,
 ) -> Result<Inputs, AllocError> {
+    let alloc = rt.alloc();
     let (end_a, end_b) = match exit {
         Exit::Watched(summary) => (Some(summary.a), Some(summary.b)),
         _ => (None, None),
@@ -114,11 +118,12 @@ fn inputs_of(
     let ([sums_a, sums_b], [span_a, span_b]) = (&sums.recordings, sums.spans);
     let a = (given.a, taps.of_network(Network::A));
     let b = (given.b, taps.of_network(Network::B));
+    let [dropped_a, dropped_b] = taps.dropped(rt);
     Ok(Inputs {
         config: FileRecord::new(alloc, given.config, texts.config)?,
         filter: file_if(alloc, given.filter, texts.filter)?,
-        a: recording_if(alloc, a, sums_a, end_a, span_a)?,
-        b: recording_if(alloc, b, sums_b, end_b, span_b)?,
+        a: recording_if(alloc, a, (sums_a, dropped_a), end_a, span_a)?,
+        b: recording_if(alloc, b, (sums_b, dropped_b), end_b, span_b)?,
     })
 }
 
@@ -163,7 +168,7 @@ fn text_for(
         program: Program::of_version(alloc, "afdxmon", version())?,
         command: arguments(rt)?,
         fault: fault_of(alloc, exit)?,
-        inputs: inputs_of(alloc, (given, taps), texts, exit, sums)?,
+        inputs: inputs_of(rt, (given, taps), texts, exit, sums)?,
         outputs: outputs_of(alloc, given, sums)?,
     };
     manifest_text(alloc, &manifest).map_err(|_| io::Error::from(ErrorKind::OutOfMemory))

@@ -1,0 +1,369 @@
+"""`transit`: what a switch did, beside a slow judge that works on whole lists, and beside a model switch that knows what it did.
+
+The judge (tests/transit_reference.py) says each outcome by its definition, so ledgers are compared whole. The model switch
+(tests/transit_flights.py) plants each fault, and each has to be told, and nothing else where the switch is right.
+"""
+import json
+import os
+import random
+import re
+import struct
+import subprocess
+import zlib
+
+from tests.harness import Case, FAULT, PROGRAM, SUCCESS, USAGE, command_of, frame, header, put, read, record, run
+from tests.transit_flights import BOUND, FAULTS, START, transit_flight
+from tests.transit_reference import AFTER, BEFORE, Options, judge
+
+MS, US, SECOND = 10**6, 10**3, 10**9
+JUDGED, FLIGHTS = 150, 40
+LINK = 'id = {0}\nname = "link_{0}"\nbag_ms = {1}\njitter_us = {2}\nsmax = 200\nintegrity = true\nredundancy = true\nskew_us = 1000\n'
+UNSOUND = "afdxmon: transit 1 Unsound"
+FAULT_WORDS = ("dropped", "lax", "leak", "slow", "overtaken", "changed", "twice", "new")
+
+
+def table(links, late=0):
+    """A table of links, each as (number, BAG in ms, jitter in us)."""
+    head = f"constant = 50331648\nlate_us = {late}\n"
+    return head + "".join(f"\n[[link]]\n{LINK.format(*link)}" for link in links)
+
+
+def pcap(frames):
+    """A recording of frames by (time since the start in nanoseconds, bytes)."""
+    return header() + b"".join(record(START + at, data) for at, data in frames)
+
+
+def options_of(options):
+    """The words of a command line for these options."""
+    words = ["--within-us", options.within // US, "--early-us", options.early // US, "--shift-ns", options.shift]
+    words += ["--grace-us", options.grace // US, "--police", "frames" if options.frames else "bytes"]
+    if options.bound is not None:
+        words += ["--bound-us", options.bound // US]
+    if options.routed is not None:
+        words += ["--routed", ",".join(map(str, sorted(options.routed)))]
+    if options.network != "-":
+        words += ["--network", options.network]
+    return [str(word) for word in words]
+
+
+def random_case(seed):
+    """Two short recordings of few links with few different frames, many of them lost, changed, repeated, late or cut: a table, both
+    recordings and the options."""
+    chance = random.Random(seed)
+    links = [(number, chance.choice((1, 2, 4)), chance.choice((0, 500))) for number in range(1, chance.randint(2, 4))]
+    step = chance.choice((50 * US, 200 * US, MS))
+    options = Options(
+        within=chance.choice((1, 2, 5)) * MS, early=chance.choice((0, 1)) * MS, shift=chance.choice((0, 0, 70_000, -70_000)),
+        bound=chance.choice((None, 300 * US)), grace=chance.choice((0, 1000, 100_000)), frames=chance.random() < 0.3,
+        routed=chance.choice((None, None, [1], [1, 2])), network=chance.choice("-AB"),
+    )
+    before, after, at = [], [], 10 * MS
+    for _ in range(chance.randint(0, 50)):
+        at += chance.randrange(0, 3) * step
+        size = chance.choice((60, 60, 100, 196, 197, 59))
+        data = frame(chance.choice((1, 1, 2, 3, 9)), size, chance.randrange(1, 4))
+        if chance.random() < 0.05:
+            data = b"\x02" + data[1:]
+        before.append((at, data))
+        out, came = chance.random(), at + chance.randrange(0, 8) * 100 * US - chance.choice((0, 0, 300 * US)) - options.shift
+        if out < 0.15:
+            continue
+        if out < 0.3:
+            data = data[:30] + b"\x01" + data[31:]
+        after.append((came, data))
+        if out > 0.9:
+            after.append((came + chance.randrange(0, 4) * MS, data))
+    for _ in range(chance.randint(0, 4)):
+        after.append((chance.randrange(5 * MS, at + 5 * MS), frame(chance.choice((1, 3, 4)), 64, chance.randrange(1, 4))))
+    return table(links, chance.choice((0, 0, 500))), pcap(before), pcap(sorted(after)), options
+
+
+class Transit(Case):
+    """What the parts below share."""
+
+    def given(self, config, before, after, *more, name=""):
+        """The words of a run over these recordings."""
+        paths = [put(self.folder, f"{name}{of}", data) for of, data in
+                 (("table.toml", config), ("before.pcap", before), ("after.pcap", after))]
+        return ["transit", "--config", paths[0], "--before", paths[1], "--after", paths[2], *more]
+
+    def transit(self, config, before, after, *more):
+        return run(self.given(config, before, after, *more), stdout=-1)
+
+    def ledger(self, config, before, after, *more):
+        """A run, and the ledger that it leaves."""
+        path = os.path.join(self.folder, "transit.ledger")
+        if os.path.exists(path):
+            os.remove(path)
+        ran = self.transit(config, before, after, "--ledger", path, *more)
+        return ran, read(path) if os.path.exists(path) else b""
+
+    def answer(self, config, before, after, *more):
+        """A run, and its answer as JSON."""
+        ran = self.transit(config, before, after, "--json", *more)
+        return ran, json.loads(ran.stdout) if ran.stdout else {}
+
+
+def first_difference(got, wanted):
+    """The first line that differs, if one does."""
+    if got == wanted:
+        return ""
+    lines = zip(got.split(b"\n") + [b"(no line)"] * 2, wanted.split(b"\n") + [b"(no line)"] * 2)
+    for number, (one, other) in enumerate(lines, 1):
+        if one != other:
+            return f"line {number} is {one!r}, not {other!r}"
+    return "the ledgers differ"
+
+
+class Judge(Transit):
+    """Ledgers whole, beside the slow judge's."""
+
+    def test_random(self):
+        for seed in range(JUDGED):
+            config, before, after, options = random_case(seed)
+            judged = judge(config, before, after, options)
+            ran, ledger = self.ledger(config, before, after, *options_of(options))
+            fault = first_difference(ledger, judged.lines + judged.summary)
+            if ran.returncode not in (SUCCESS, FAULT):
+                fault = f"status {ran.returncode}: {ran.stderr!r}"
+            self.case(f"random recordings {seed}", fault and f"{fault}; the command: {command_of(ran)}")
+
+
+class ModelSwitch(Transit):
+    """Each fault that is planted is told, and none where the switch is right."""
+
+    def flight(self, name, seed, faults):
+        flight = transit_flight(seed, faults)
+        ran, ledger = self.ledger(flight.config, flight.before, flight.after, "--bound-us", str(BOUND // US))
+        got = {}
+        for line in ledger.decode().split("\n"):
+            words = line.split(" ")
+            if words[0].isdigit():
+                got[words[1], int(words[2])] = words[7]
+        wrong = {key: (got.get(key), word) for key, word in flight.outcomes.items() if got.get(key) != word}
+        told = ran.returncode == SUCCESS and not ran.stderr
+        fault = f"of (side, number): told, planted: {wrong}" if wrong else "" if told else f"{ran.returncode}: {ran.stderr!r}"
+        self.case(name, fault and f"{fault}; the command: {command_of(ran)}")
+
+    def test_planted(self):
+        for seed in range(FLIGHTS):
+            self.flight(f"all faults planted, flight {seed}", seed, FAULTS)
+        for fault in FAULTS:
+            self.flight(f"{fault} planted alone", 1000, (fault,))
+
+    def test_right(self):
+        for seed in range(FLIGHTS // 2):
+            flight = transit_flight(seed, ())
+            ran, answer = self.answer(flight.config, flight.before, flight.after, "--bound-us", str(BOUND // US))
+            told = {kind: of["frames"] for kind, of in answer.get("kinds", {}).items()}
+            fault = "" if ran.returncode == SUCCESS and told == {} and answer["questions"] == [] else f"{told} {answer.get('questions')}"
+            self.case(f"a right switch {seed}", fault and f"{fault}; the command: {command_of(ran)}")
+
+
+def plain_flight(count=400, transit=30 * US, start=100 * MS, links=(1, 2)):
+    """Frames of two links, each its own, and how they come out: some microseconds later, more or less."""
+    chance, before, after = random.Random(5), [], []
+    for index in range(count):
+        at = start + index * MS
+        data = frame(links[index % len(links)], 100, index // len(links) % 255 + 1)
+        data = data[:14] + index.to_bytes(4, "big") + data[18:]
+        before.append((at, data))
+        after.append((at + transit + chance.randrange(20) * US + (200 * US if index % 37 == 0 else 0), data))
+    return before, after
+
+
+PLAIN = table([(1, 2, 0), (2, 2, 0)])
+CHECKED = b"".join
+
+
+def with_check(data):
+    """A frame with its check sequence at its end."""
+    return data + struct.pack("<I", zlib.crc32(data))
+
+
+class Questions(Transit):
+    """Each wrong input asks its question."""
+
+    def asks(self, name, word, before, after, *more, config=PLAIN, **numbers):
+        ran, answer = self.answer(config, before, after, *more)
+        asked = [one["question"] for one in answer.get("questions", [])]
+        fault = "" if asked[:1] == [word] and ran.returncode == FAULT else f"asked {asked}, not {word}; {ran.stderr!r}"
+        question = answer["questions"][0] if asked else {}
+        for key, value in numbers.items():
+            if not fault and question.get(key) != value:
+                fault = f"{key} is {question.get(key)}, not {value}"
+        self.case(name, fault and f"{fault}; the command: {command_of(ran)}")
+
+    def test_questions(self):
+        before, after = plain_flight()
+        ins, outs = pcap(before), pcap(after)
+        least = min(out[0] - into[0] for into, out in zip(before, after))
+        ran, answer = self.answer(PLAIN, ins, outs)
+        fine = ran.returncode == SUCCESS and answer["sound"] and not ran.stderr
+        self.case("a right switch has no question", "" if fine else f"{answer.get('questions')} {ran.stderr!r}; {command_of(ran)}")
+        self.asks("no frame before", "empty_before", pcap([]), outs)
+        self.asks("no frame after", "empty_after", ins, pcap([]))
+        self.asks("both recordings swapped", "swapped", outs, ins)
+        self.asks("one recording as both", "same_recording", ins, ins)
+        cut = header() + b"".join(record(START + at, data[:60], original=100) for at, data in after)
+        self.asks("frames after cut short", "cut_after", ins, cut)
+        checked = pcap([(at, with_check(data)) for at, data in before])
+        self.asks("check sequences before", "check_sequence_before", checked, outs)
+        self.asks("a table of another network", "constant", ins, outs, config=PLAIN.replace("50331648", "50331649"))
+        self.asks("a table of other links", "other_table", ins, outs, config=table([(8, 2, 0), (9, 2, 0)]))
+        early = pcap([(at - 40 * US, data) for at, data in after])
+        self.asks("clocks apart by less than the window", "clocks", ins, early, nanoseconds=least - 40 * US, at_least=True,
+                  shift_ns=40 * US - least)
+        far = pcap([(at + 2 * SECOND, data) for at, data in after])
+        self.asks("clocks apart by two seconds", "clocks", ins, far, at_least=False, shift_ns=-2 * SECOND - least)
+        twice = pcap([one for one in before for _ in (0, 1)])
+        self.asks("each frame before twice", "twice_before", twice, outs)
+        again = pcap(sorted(one for at, data in after for one in ((at, data), (at + 300 * US, data))))
+        self.asks("each frame after twice", "twice_after", ins, again)
+        day = pcap([(at + 90 * SECOND, data[:20] + b"\x07" + data[21:]) for at, data in after])
+        self.asks("no common time", "apart", ins, day)
+        other = pcap([(at, data[:5] + b"\x09" + data[6:]) for at, data in after])
+        self.asks("another port", "other_port", ins, other, config=table([(1, 2, 0), (2, 2, 0), (9, 1, 0)]))
+        network = pcap([(at, data[:11] + b"\x40" + data[12:]) for at, data in after])
+        self.asks("two networks", "two_networks", ins, network)
+        written = pcap([(at, data[:20] + b"\x40" + data[21:]) for at, data in after])
+        self.asks("all frames rewritten", "rewritten", ins, written)
+        lost = pcap(after[:150] + after[250:])
+        self.asks("nothing recorded after for a time", "silence_after", ins, lost, frames=100, links=2)
+        missed = pcap(before[:150] + before[250:])
+        self.asks("nothing recorded before for a time", "silence_before", missed, outs, frames=100, links=2)
+        self.asks("transits longer than the window", "window", ins, pcap(sorted(slow_frames(after))), "--within-us", "5000")
+
+    def test_drift(self):
+        before, after = plain_flight(count=15000)
+        drifting = pcap([(at + (at - 100 * MS) * 20 // 10**6, data) for at, data in after])
+        ran, answer = self.answer(PLAIN, pcap(before), drifting)
+        asked = answer.get("questions") or [{}]
+        near = abs(asked[0].get("parts_per_billion", 0) - 20000) < 2000
+        fault = "" if asked[0].get("question") == "drift" and near and ran.returncode == FAULT else f"{asked} {ran.stderr!r}"
+        self.case("a clock that drifts by 20 us a second", fault and f"{fault}; the command: {command_of(ran)}")
+
+
+def slow_frames(after):
+    """The frames of a flight of which a hundred in the middle come out 30 ms later."""
+    for index, (at, data) in enumerate(after):
+        yield (at + 30 * MS if 150 <= index < 250 else at, data)
+
+
+class CommandLine(Transit):
+    """Options at their bounds and beyond, files, and what is left after a fault."""
+
+    BOUNDS = {"--within-us": (1, 10_000_000), "--early-us": (0, 1_000_000), "--bound-us": (0, 10_000_000), "--grace-us": (0, 1_000_000),
+              "--shift-ns": (-(2**63), 2**63 - 1), "--late-us": (0, 1_000_000)}
+
+    def test_bounds(self):
+        before, after = plain_flight(count=40)
+        ins, outs = pcap(before), pcap(after)
+        for option, (least, most) in self.BOUNDS.items():
+            for value in (least, most):
+                ran = self.transit(PLAIN, ins, outs, option, str(value))
+                fault = "" if ran.returncode in (SUCCESS, FAULT) and ran.stdout else f"status {ran.returncode}: {ran.stderr!r}"
+                self.case(f"{option} {value}", fault and f"{fault}; the command: {command_of(ran)}")
+            for value in (least - 1, most + 1, "x", ""):
+                ran = self.transit(PLAIN, ins, outs, option, str(value))
+                fault = "" if ran.returncode == USAGE and not ran.stdout else f"status {ran.returncode}: {ran.stderr!r}"
+                self.case(f"{option} {value!r} is refused", fault and f"{fault}; the command: {command_of(ran)}")
+        for option, values in (("--police", ("packets", "")), ("--network", ("C", "a"))):
+            for value in values:
+                ran = self.transit(PLAIN, ins, outs, option, value)
+                fault = "" if ran.returncode == USAGE else f"status {ran.returncode}: {ran.stderr!r}"
+                self.case(f"{option} {value!r} is refused", fault and f"{fault}; the command: {command_of(ran)}")
+        for value, item in (("70000", 0), ("1,link_9", 1), ("", 0)):
+            self.judge(f"--routed {value!r} is refused", self.transit(PLAIN, ins, outs, "--routed", value), FAULT,
+                       f"afdxmon: transit 8 Selection routed at {item}", b"")
+
+    def test_faults(self):
+        before, after = plain_flight(count=40)
+        ins, outs = pcap(before), pcap(after)
+        self.judge("no recording before", self.transit(PLAIN, b"no pcap", outs), FAULT, "afdxmon: transit 2 Header before 1 Short", b"")
+        self.judge("no recording after", self.transit(PLAIN, ins, b"\0" * 24), FAULT, "afdxmon: transit 2 Header after 2 Magic", b"")
+        words = self.given(PLAIN, ins, outs)
+        gone = [word.replace("before.pcap", "gone.pcap") for word in words]
+        self.judge("a file before that isn't there", run(gone, stdout=-1), FAULT, "afdxmon: file --before", b"")
+        gone = [word.replace("after.pcap", "gone.pcap") for word in words]
+        self.judge("a file after that isn't there", run(gone, stdout=-1), FAULT, "afdxmon: file --after", b"")
+        self.judge("a table that is none", self.transit("link = 1", ins, outs), FAULT, "afdxmon: config 2 Missing top", b"")
+        words = self.given(PLAIN, ins, outs)
+        for option in ("before.pcap", "after.pcap", "table.toml"):
+            path = os.path.join(self.folder, option)
+            self.judge(f"the ledger is {option}", run([*words, "--ledger", path], stdout=-1), FAULT, "afdxmon: file --ledger", b"")
+        full = run([*words, "--ledger", "/dev/full"], stdout=-1)
+        self.judge("a ledger that can't be written", full, FAULT, "afdxmon: transit 4 Write ledger", b"")
+
+    def test_older_ledger(self):
+        before, after = plain_flight(count=40)
+        path = put(self.folder, "older.ledger", "older")
+        ran = self.transit(PLAIN, b"no pcap", pcap(after), "--ledger", path)
+        kept = read(path) == b"older"
+        self.case("an older ledger stays where nothing is read", "" if kept and ran.returncode == FAULT else f"{read(path)[:40]!r}; {command_of(ran)}")
+
+    def test_files(self):
+        """Several files, and pcapng, are read as one pcap file is."""
+        before, after = plain_flight(count=300)
+        whole, ledger = self.ledger(PLAIN, pcap(before), pcap(after))
+        parts = [put(self.folder, f"part{number}.pcap", pcap(before[number * 100 : number * 100 + 100])) for number in range(3)]
+        words = self.given(PLAIN, pcap(before), pcap(after))
+        path = os.path.join(self.folder, "several.ledger")
+        several = [*words[:4], *parts, *words[5:], "--ledger", path]
+        ran = run(several, stdout=-1)
+        same = ran.returncode == SUCCESS and read(path) == ledger and whole.returncode == SUCCESS
+        self.case("three files before", "" if same else f"{ran.returncode} {ran.stderr!r}; the command: {command_of(ran)}")
+        piped = run([*words[:4], "-", *words[5:], "--ledger", path], stdout=-1, input=pcap(before))
+        same = piped.returncode == SUCCESS and read(path) == ledger
+        self.case("a pipe before", "" if same else f"{piped.returncode} {piped.stderr!r}; the command: {command_of(piped)}")
+
+    def test_text(self):
+        """The answer at its shortest, whole."""
+        before, after = plain_flight(count=200)
+        ran = self.transit(PLAIN, pcap(before), pcap(after), "--network", "A")
+        lines = ran.stdout.decode().split("\n")
+        wide = [line for line in lines if len(line) > 80]
+        head = lines[0] == "transit of network A: 200 frames in, 200 out" and lines[-2:] == ["sound: yes", ""]
+        fault = "" if head and not wide and "faults: none" in lines else f"{wide} {lines}"
+        self.case("the answer of a right switch", fault and f"{fault}; the command: {command_of(ran)}")
+
+    def test_json(self):
+        """The answer's numbers are the ledger's."""
+        for seed in range(0, JUDGED, 5):
+            config, before, after, options = random_case(seed)
+            _, ledger = self.ledger(config, before, after, *options_of(options))
+            ran, answer = self.answer(config, before, after, *options_of(options))
+            total = ledger.decode().rstrip("\n").split("\n")[-1] if ledger else ""
+            counts = re.findall(r"(\w+) (\d+)", total.partition(" after ")[0]), re.findall(r"(\w+) (\d+)", total.partition(" after ")[2])
+            wanted = {word: int(count) for word, count in counts[0] if word in BEFORE and word != "open"}
+            wanted |= {word: int(count) for word, count in counts[1] if word in AFTER and word != "open"}
+            got = {word: answer["total"].get(word) for word in wanted}
+            lines = [line.split(" ") for line in ledger.decode().split("\n") if line[:1].isdigit()]
+            faults = [line for line in lines if line[7] in FAULT_WORDS]
+            told = [[one["time"], one["side"], str(one["number"])] for one in answer["faults"]]
+            fault = "" if got == wanted and told == [line[:3] for line in faults[:100]] else f"{got}, not {wanted}"
+            by_kind = {kind: sum(line[7] == kind for line in faults) for kind in FAULT_WORDS}
+            kinds = {kind: of["frames"] for kind, of in answer["kinds"].items()}
+            fault = fault or ("" if kinds == {kind: count for kind, count in by_kind.items() if count} else f"kinds {kinds}, not {by_kind}")
+            self.case(f"the answer beside the ledger {seed}", fault and f"{fault}; the command: {command_of(ran)}")
+
+
+class Memory(Transit):
+    """Memory is flat however long the recordings are, and where one ends long before the other."""
+
+    MOST = 24 << 20
+
+    def peak(self, config, before, after):
+        """The most memory of a run in bytes, and its command."""
+        words = [PROGRAM, *self.given(config, before, after, "--ledger", "/dev/null")]
+        child = subprocess.Popen(words, stdout=subprocess.DEVNULL, stderr=subprocess.DEVNULL)
+        _, _, used = os.wait4(child.pid, 0)
+        return used.ru_maxrss * 1024, " ".join(words)
+
+    def test_flat(self):
+        before, after = plain_flight(count=200_000)
+        short, _ = self.peak(PLAIN, pcap(before[:20_000]), pcap(after[:20_000]))
+        for name, outs in (("both as long", after), ("the recording after ends early", after[:1000])):
+            used, words = self.peak(PLAIN, pcap(before), pcap(outs))
+            fault = "" if used < min(self.MOST, short + (6 << 20)) else f"{used >> 10} KiB, and {short >> 10} KiB of a tenth of it"
+            self.case(f"memory, {name}", fault and f"{fault}; the command: {words}")
