@@ -18,7 +18,7 @@ UNTOLD = {"5 Spawn", "8 Filters"}
 WORDS = 26_000
 LONG = 30
 LONG_SENTENCES = {}
-ODD_COMMENTS = 164
+ODD_COMMENTS = 166
 # Forms over which a reader stumbles, and what to write.
 RIDDLES = (
     (r"^(What|Whether|Who|Which|How|Of|That|Those) (?!is that\b)[^?]*$", "begin with who does something, or with the thing"),

@@ -242,7 +242,7 @@ class Manual(Case):
         tagged = [row for page in PAGES for row in re.findall(r"^\.It Li (\w+ \d.*)", read(MAN, page).decode(), re.M)]
         found = {" ".join(re.sub(r"\bAr \w+|\bLi\b", "", row).split()) for row in tagged}
         documents = "".join(read(TOP, "docs", page).decode() for page in ("MESSAGES.md", "TABLE.md", "FILTERS.md"))
-        lines = re.findall(r"`(?:afdxmon: )?((?:asm|debug|numeric|load|cut|links|check|report|watch|config) \d \w[\w ]*)`", documents)
+        lines = re.findall(r"`(?:afdxmon: )?((?:asm|debug|numeric|load|cut|links|check|report|transit|watch|config) \d \w[\w ]*)`", documents)
         known = {re.sub(r"(?<=at) [NI]\b|(?<=word) W\b|(?<=link) \d| (?:WHAT|REASON|OPTION|COLUMN|FAULT)\b", "", line) for line in lines}
         self.case("the man pages have each fault line", differ(found, known))
 
