@@ -53,10 +53,10 @@ def said(text):
     """What a time says, and nanoseconds: since 1970 (`at`), since midnight (`day`) or since the ledger's first frame (`since`)."""
     if text.isdigit():
         return "at", int(text)
-    whole, _, fraction = text.removesuffix("Z").partition(".")
-    nanoseconds = int(fraction.ljust(9, "0")) if fraction else 0
     if text.startswith("+"):
         return "since", length(text[1:] if text.endswith("s") else text[1:] + "s")
+    whole, _, fraction = text.removesuffix("Z").partition(".")
+    nanoseconds = int(fraction.ljust(9, "0")) if fraction else 0
     if not text.endswith("Z"):
         hours, minutes, seconds = map(int, (whole + ":00" if whole.count(":") == 1 else whole).split(":"))
         return "day", ((hours * 60 + minutes) * 60 + seconds) * 10**9 + nanoseconds

@@ -132,7 +132,7 @@ class Debugging(Case):
             told = text.read().split("\n## Commands")[0]
         code = re.search(r"^echo '([^']*)' > number17$", told, re.MULTILINE).group(1)
         tap = header() + b"".join(record(i * 1_000_000, frame(5, 60, 16 + i)) for i in range(3))
-        begun = told[told.index("It begins with the number of frames"):]
+        begun = told[told.index("The session begins with the number of frames"):]
         named = re.compile(r"\*\*`([^`]*)`\*\*")
         commands = named.findall(begun)
         shown = "".join(block + "\n" for block in re.findall(r"^```\n(.*?)\n```$", begun.split("With `sub #1`")[0], re.MULTILINE | re.DOTALL))

@@ -243,6 +243,8 @@ class Hostile(Case):
         runs += [["watch", "--config", os.path.join(self.folder, "table"), *sides, "--ledger", ledger]]
         runs += [["capture", "--code", EVERY, paths["a"], "--pcapng"], ["debug", "--filter", paths["filter"], "--tap", paths["a"]], ["asm"]]
         runs += [["check", "--config", paths["config"], *sides], ["links", *sides], ["cut", "--ledger", ledger, *sides, "--around", "3"]]
+        ports = ["--before", paths["a"], "--after", paths["b"]]
+        runs += [["transit", "--config", paths["config"], *ports, *more] for more in ([], ["--json"])]
         runs += [["report", "--config", paths["config"], "--ledger", ledger, *more] for more in ([], ["--json"], ["--manifest", os.path.join(self.folder, "manifest")])]
         self.case("hostile: docs/PROOFS.md names the stack of each command", "" if {words[0] for words in runs} == set(stacks()) else f"{stacks()}")
         for words in runs:

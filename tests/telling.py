@@ -278,6 +278,7 @@ class Telling(AtADesk):
         told += self.reports()
         told.append(self.twice("a draft", "links 1 Constant", "", ["links", "--a", self.desk.paths["a"], "--constant", "5"], stdin=subprocess.DEVNULL))
         told.append("check 1 Unsound")  # check.py has it, beside the answer
+        told += ["transit 1 Unsound", "transit 8 Selection"]  # transit.py has these
         told += ["file --manifest", "watch 4 Write manifest"]  # manifest.py has these
         told += ["order --a", "repeated --a"]  # several.py has these
         told.append("interfaces RECORDING")  # blocks.py has it
