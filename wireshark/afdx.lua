@@ -1,10 +1,13 @@
 -- AFDX (ARINC 664 Part 7) in Wireshark and tshark, with the verdicts of afdxmon's ledger beside the frames.
 --
 --   tshark -r flight_a.pcap -X lua_script:afdx.lua -o afdx.ledger:flight.ledger -Y 'afdx.policing == "excess"'
+--   tshark -r in.pcap -X lua_script:afdx.lua -o afdx.ledger:transit.ledger -Y 'afdx.transit.latency > 400000'
 --
--- docs/WIRESHARK.md describes the fields and the preferences. Without a ledger there are the fields of the frame's own
--- bytes. With one, the frame's line is looked up by its timestamp: the lines of a ledger rise by it, so halving the file
--- finds any of them with a few reads, and no index is made. The program runs in Lua 5.1 to 5.4.
+-- docs/WIRESHARK.md describes the fields and the preferences. Without a ledger there are the fields of the
+-- frame's own bytes. With one, the frame's line is looked up by its timestamp: the lines of a ledger rise by
+-- it, so halving the file finds any of them with a few reads, and no index is made. In a ledger of transits
+-- the line of a frame that came out may stand where its partner went in: lines about a time are kept by when
+-- their frames came out. The program runs in Lua 5.1 to 5.4.
 
 -- Wireshark refuses a second protocol of one name, as where this file is installed and named by lua_script as well.
 local is_first, afdx = pcall(Proto, "afdx", "AFDX (ARINC 664 Part 7)")
@@ -29,6 +32,12 @@ local fields = {
   accepted = ProtoField.bool("afdx.accepted", "Accepted by a filter"),
   kept = ProtoField.uint32("afdx.kept", "Bytes in the capture", base.DEC),
   mask = ProtoField.uint8("afdx.mask", "Mask of the filters that accept", base.HEX),
+  side = ProtoField.string("afdx.transit.side", "Side of the switch"),
+  index = ProtoField.uint32("afdx.transit.number", "Index in its side's recording, from 0", base.DEC),
+  outcome = ProtoField.string("afdx.transit.outcome", "Outcome"),
+  partner = ProtoField.uint32("afdx.transit.partner", "Index of its partner on the other side", base.DEC),
+  latency = ProtoField.int64("afdx.transit.latency", "Latency in nanoseconds", base.DEC),
+  differs = ProtoField.uint32("afdx.transit.differs", "First byte that differs from its partner's", base.DEC),
 }
 local list = {}
 for _, field in pairs(fields) do list[#list + 1] = field end
@@ -40,11 +49,14 @@ local other_line = ProtoExpert.new("afdx.other_line", "The ledger's line tells a
   expert.group.SEQUENCE, expert.severity.ERROR)
 afdx.experts = { no_line, other_line }
 
-local NETWORKS = { "A", "B" }
+local NETWORKS, SIDES = { "A", "B" }, { "before", "after" }
 local BY_TIMESTAMP = 3
-afdx.prefs.ledger = Pref.string("Ledger", "", "The ledger that afdxmon watch wrote; empty for none")
+afdx.prefs.ledger = Pref.string("Ledger", "", "The ledger of afdxmon watch or transit; empty for none")
 afdx.prefs.tap = Pref.enum("Tap", BY_TIMESTAMP, "Which network's recording this is. By timestamp: any, or a selection of both",
   { { 1, "A", 1 }, { 2, "B", 2 }, { 3, "timestamp", BY_TIMESTAMP } }, false)
+afdx.prefs.side = Pref.enum("Side", BY_TIMESTAMP,
+  "Of a ledger of transits: which recording this is. By timestamp: any, or a selection of both",
+  { { 1, "before", 1 }, { 2, "after", 2 }, { 3, "timestamp", BY_TIMESTAMP } }, false)
 afdx.prefs.constant = Pref.string("Constant field", "03000000", "The first four bytes of the network's frames, in hexadecimal")
 
 -- Timestamps ----------------------------------------------------------------------------------------------------------
@@ -61,28 +73,66 @@ local function nanoseconds_between(one, other)
   return math.min(difference, 1e9 - difference)
 end
 
--- The timestamp `later` nanoseconds behind a time in seconds.
-local function timestamp_of(time, later)
-  local seconds = math.floor(time)
-  local nanoseconds = math.floor((time - seconds) * 1e9 + 0.5) + later
+-- The timestamp of a number of seconds and one of nanoseconds, which may be below 0 or above a second.
+local function timestamp(seconds, nanoseconds)
   seconds, nanoseconds = seconds + math.floor(nanoseconds / 1e9), nanoseconds % 1e9
   if seconds < 0 then return "0" end
   if seconds == 0 then return string.format("%d", nanoseconds) end
   return string.format("%d%09d", seconds, nanoseconds)
 end
 
+-- The timestamp of a time in seconds.
+local function timestamp_of(time)
+  local seconds = math.floor(time)
+  return timestamp(seconds, math.floor((time - seconds) * 1e9 + 0.5))
+end
+
+-- The seconds and the nanoseconds of a decimal text of nanoseconds.
+local function parts_of(text)
+  return tonumber(text:sub(1, -10)) or 0, tonumber(text:sub(-9))
+end
+
+-- The timestamp so many nanoseconds, and seconds, after another.
+local function later(stamp, nanoseconds, more)
+  local seconds, rest = parts_of(stamp)
+  return timestamp(seconds + (more or 0), rest + nanoseconds)
+end
+
 -- The ledger ----------------------------------------------------------------------------------------------------------
 
-local HEADER = "afdx-ledger 2\n"
 local NEWLINE = 10
 local BLOCK = 65536        -- bytes that are read at once where lines follow each other
 local PROBE = 512          -- bytes that hold at least one whole line
-local COUNTS = 1048576     -- bytes that hold all lines of counts: 4096 virtual links of at most 160 bytes, and some more
-local STAMP = "^\n(%d+) [AB] "
-local LINE = "^\n(%d+) ([AB]) (%d+) (%S+) (%S+) (%S+) (%S+) (%S+) (%S+) (%S+) (%x%x)"
+local COUNTS = 4194304     -- bytes that hold all lines of counts: 4096 virtual links of 800 bytes, and more
+local LINE = "^\n(%d+) (%a+) (%d+) (%S+) (%S+) (%S+) (%S+) (%S+) (%S+) (%S+) (%S+)"
+
+-- The ledgers that there are, by their first lines: the pattern of the timestamp of a frame's line, and its
+-- fields.
+local FORMS = {
+  ["afdx-ledger 2\n"] = {
+    stamp = "^\n(%d+) [AB] ",
+    line_at = function(text, place)
+      local line = {}
+      line.stamp, line.tap, line.number, line.vl, line.sn, line.class, line.policing, line.integrity,
+        line.redundancy, line.kept, line.mask = text:match(LINE, place)
+      return line.stamp and line
+    end,
+  },
+  ["afdx-transit 1\n"] = {
+    stamp = "^\n(%d+) %l+ ",
+    line_at = function(text, place)
+      local line = {}
+      line.stamp, line.side, line.number, line.vl, line.sn, line.class, line.policing, line.outcome,
+        line.other, line.latency, line.differs = text:match(LINE, place)
+      return line.stamp and line
+    end,
+    is_of_transits = true,
+  },
+}
 
 -- A ledger is an open file and a block of its whole lines. `text` begins with the newline before its first line, which
 -- stands at byte `at` of the file. The last search was for `low` and ended at `place`, the newline before a line in `text`.
+-- The newline before the first line of a frame is at byte `start`.
 local Ledger = {}
 Ledger.__index = Ledger
 
@@ -101,7 +151,7 @@ function Ledger:last_stamp()
   local place = #self.text - 1
   while place > 0 do
     while place > 0 and self.text:byte(place) ~= NEWLINE do place = place - 1 end
-    local stamp = place > 0 and self.text:match(STAMP, place)
+    local stamp = place > 0 and self.text:match(self.form.stamp, place)
     if stamp then return stamp end
     place = place - 1
   end
@@ -111,7 +161,7 @@ end
 function Ledger:load(from)
   self.text, self.at = self:whole_lines(from, BLOCK)
   self.low, self.place = "0", 1
-  self.first, self.last = self.text:match(STAMP), self:last_stamp()
+  self.first, self.last = self.text:match(self.form.stamp), self:last_stamp()
 end
 
 -- Makes the block that of the lines behind it. False where no line of a frame follows.
@@ -129,28 +179,54 @@ function Ledger:read_names()
   return names
 end
 
+-- The window of a run of transit and its shift, by the ledger's second line.
+local function run_of(text)
+  local within, early, sign, shift = (text or ""):match("^run .* within (%d+) early (%d+) shift (%-?)(%d+) ")
+  if not within then return nil end
+  local seconds, nanoseconds = parts_of(shift)
+  if sign == "-" then seconds, nanoseconds = -seconds, -nanoseconds end
+  return { within = tonumber(within), early = tonumber(early), seconds = seconds, nanoseconds = nanoseconds }
+end
+
+-- The form of an open file, the run of a ledger of transits, and the byte at which its frames start. Nil for
+-- no ledger.
+local function head_of(file)
+  local head = file:read(16) or ""
+  for first, form in pairs(FORMS) do
+    if head:sub(1, #first) == first then
+      file:seek("set", #first)
+      if not form.is_of_transits then return form, nil, #first - 1 end
+      local second = file:read("*l")
+      local run = run_of(second)
+      if run then return form, run, #first + #second end
+    end
+  end
+end
+
 -- Opens a ledger. Otherwise nil, and why not.
 function Ledger.open(path)
   local file, why = io.open(path, "rb")
   if not file then return nil, why end
-  if file:read(#HEADER) ~= HEADER then
+  local form, run, start = head_of(file)
+  if not form then
     file:close()
-    return nil, path .. ": no ledger of version 2"
+    return nil, path .. ": no ledger of version 2, and none of transits of version 1"
   end
   -- A buffer of the library's would read more than a probe needs, and at each seek anew.
   file:setvbuf("no")
-  local ledger = setmetatable({ file = file, size = file:seek("end") }, Ledger)
+  local ledger = setmetatable({ file = file, form = form, run = run, start = start }, Ledger)
+  ledger.size = file:seek("end")
   ledger.names = ledger:read_names()
-  ledger:load(#HEADER - 1)
+  ledger:load(start)
   return ledger
 end
 
 -- A byte of the file behind which the first line of a timestamp from `low` on begins, by halving.
 function Ledger:halve(low)
-  local above, below = #HEADER - 1, self.size
+  local above, below = self.start, self.size
   while below - above > PROBE do
     local middle = math.floor((above + below) / 2)
-    local stamp = self:whole_lines(middle, PROBE):match(STAMP)
+    local stamp = self:whole_lines(middle, PROBE):match(self.form.stamp)
     if stamp and is_before(stamp, low) then above = middle else below = middle end
   end
   return above
@@ -158,7 +234,7 @@ end
 
 -- Whether the block has the first line of a timestamp from `low` on: a line before that one, and one from there on.
 function Ledger:has_first(low)
-  local from_start = self.at == #HEADER - 1
+  local from_start = self.at == self.start
   return self.first and (from_start or is_before(self.first, low)) and not is_before(self.last, low)
 end
 
@@ -175,19 +251,11 @@ function Ledger:go_to(low)
   self:find_block(low)
   if is_before(low, self.low) then self.place = 1 end
   self.low = low
-  local stamp = self.text:match(STAMP, self.place)
+  local stamp = self.text:match(self.form.stamp, self.place)
   while stamp and is_before(stamp, low) do
     self.place = self.text:find("\n", self.place + 1, true)
-    stamp = self.text:match(STAMP, self.place)
+    stamp = self.text:match(self.form.stamp, self.place)
   end
-end
-
--- The line of a frame that begins behind a place in the block.
-function Ledger:line_at(place)
-  local line = {}
-  line.stamp, line.tap, line.number, line.vl, line.sn, line.class, line.policing, line.integrity, line.redundancy,
-    line.kept, line.mask = self.text:match(LINE, place)
-  return line.stamp and line
 end
 
 -- The lines of frames with a timestamp from `low` to `high`, one after the other.
@@ -195,14 +263,76 @@ function Ledger:between(low, high)
   self:go_to(low)
   local place = self.place
   return function()
-    local stamp = self.text:match(STAMP, place)
+    local stamp = self.text:match(self.form.stamp, place)
     if not stamp and self:load_next() then
       place, stamp = 1, self.first
     end
     if not stamp or is_before(high, stamp) then return nil end
-    local line = self:line_at(place)
+    local line = self.form.line_at(self.text, place)
     place = self.text:find("\n", place + 1, true)
     return line
+  end
+end
+
+-- Frames that came out -------------------------------------------------------------------------------------
+
+-- The lines of frames that came out in a window of time, from `first` to `last` as they were recorded. That
+-- of a pair stands where its partner went in, earlier or later by as much as the run allowed. `seen` has the
+-- lines by their timestamps without the last four digits.
+local Window = {}
+Window.__index = Window
+
+local AHEAD = 1e7          -- nanoseconds that a window goes on for after the time that is asked for, at least
+local DIGITS = -5          -- the last of a timestamp's digits by which `seen` has it
+
+-- A window on a ledger of transits, whose file it reads for itself: elsewhere than where frames went in.
+function Window.open(path)
+  local ledger = Ledger.open(path)
+  return ledger and setmetatable({ ledger = ledger, first = "1", last = "0", seen = {} }, Window)
+end
+
+-- Takes a line as that of the frame that came out, if one did: its number, and its timestamp in the
+-- recording.
+function Window:take(line)
+  if line.side == "before" then
+    if line.other == "-" then return end
+    line.stamp, line.side = later(line.stamp, tonumber(line.latency)), "after"
+    line.number, line.other = line.other, line.number
+  end
+  local run = self.ledger.run
+  line.stamp = later(line.stamp, -run.nanoseconds, -run.seconds)
+  local key = line.stamp:sub(1, DIGITS)
+  local lines = self.seen[key] or {}
+  self.seen[key] = lines
+  lines[#lines + 1] = line
+end
+
+-- Makes the window one from `low` to `high` at least. It goes on for as long again, so that frames in order
+-- read each line twice at most.
+function Window:move(low, high)
+  if not is_before(low, self.first) and not is_before(self.last, high) then return end
+  local run = self.ledger.run
+  self.first, self.last, self.seen = low, later(high, run.within + run.early + AHEAD), {}
+  local from = later(low, run.nanoseconds - run.within, run.seconds)
+  local to = later(self.last, run.nanoseconds + run.early, run.seconds)
+  for line in self.ledger:between(from, to) do self:take(line) end
+end
+
+-- The lines of the frames that came out from `low` to `high`, which are close to each other, one after the
+-- other.
+function Window:between(low, high)
+  self:move(low, high)
+  local found, keys = {}, { low:sub(1, DIGITS), high:sub(1, DIGITS) }
+  if keys[1] == keys[2] then keys[2] = nil end
+  for _, key in ipairs(keys) do
+    for _, line in ipairs(self.seen[key] or {}) do
+      if not is_before(line.stamp, low) and not is_before(high, line.stamp) then found[#found + 1] = line end
+    end
+  end
+  local at = 0
+  return function()
+    at = at + 1
+    return found[at]
   end
 end
 
@@ -229,32 +359,34 @@ end
 -- How well a line of about the same timestamp fits a frame. A link counts most, then the network, then the index, which
 -- tells in a whole recording which of two equal frames this is; then how close the timestamps are.
 local function fitness(line, frame)
-  local close = 1 - nanoseconds_between(line.stamp, timestamp_of(frame.time, 0)) / 1e4
+  local close = 1 - nanoseconds_between(line.stamp, frame.stamp) / 1e4
   return ((line.vl ~= "-") == frame.is_afdx and 8 or 0) + (line.tap == frame.network and 4 or 0)
     + (tonumber(line.number) == frame.number and 2 or 0) + close
 end
 
--- The line of a frame in a recording of one network, by its index there.
-local function line_by_number(ledger, frame, tap)
-  for line in ledger:between(timestamp_of(frame.time, -INEXACT), timestamp_of(frame.time, INEXACT)) do
-    if line.tap == tap and tonumber(line.number) == frame.number then return line end
+-- The line of a frame in a recording of one network, or of one side, by its index there.
+local function line_by_number(source, frame, where)
+  for line in source:between(later(frame.stamp, -INEXACT), later(frame.stamp, INEXACT)) do
+    if (line.tap or line.side) == where and tonumber(line.number) == frame.number then return line end
   end
 end
 
--- The line that fits a frame of any recording best, by its timestamp.
-local function line_by_timestamp(ledger, frame)
-  local best
-  for line in ledger:between(timestamp_of(frame.time, -INEXACT), timestamp_of(frame.time, INEXACT + LOST)) do
-    if agrees(line, frame) and (not best or fitness(line, frame) > fitness(best, frame)) then best = line end
+-- The line that fits a frame of any recording best, by its timestamp: of all, or of one side.
+local function line_by_timestamp(source, frame, side)
+  local best, fits
+  for line in source:between(later(frame.stamp, -INEXACT), later(frame.stamp, INEXACT + LOST)) do
+    local how_well = line.side == side and agrees(line, frame) and fitness(line, frame)
+    if how_well and (not best or how_well > fits) then best, fits = line, how_well end
   end
   return best
 end
 
 -- The dissector -------------------------------------------------------------------------------------------------------
 
--- The ledger and the constant field of the preferences, whether a frame's line was found or its lack was told, and
--- whether someone sees the frame's tree.
-local state = { ledger = nil, constant = "", is_found = false, is_shown = false }
+-- The ledger and the constant field of the preferences; the window on the frames that came out, of a ledger
+-- of transits; whether a frame's line was found or its lack was told, and whether someone sees the frame's
+-- tree.
+local state = { ledger = nil, window = nil, constant = "", is_found = false, is_shown = false }
 
 -- The bytes that the preference writes in hexadecimal.
 local function constant_bytes(digits)
@@ -268,18 +400,22 @@ end
 -- Called before a recording is dissected, and again after a change of preferences: the ledger may be another one now.
 function afdx.init()
   if state.ledger then state.ledger.file:close() end
-  state.constant, state.ledger, state.is_found = constant_bytes(afdx.prefs.constant), nil, false
+  if state.window then state.window.ledger.file:close() end
+  state.constant, state.ledger, state.window = constant_bytes(afdx.prefs.constant), nil, nil
+  state.is_found = false
   if afdx.prefs.ledger == "" then return end
   local ledger, why = Ledger.open(afdx.prefs.ledger)
   if not ledger then report_failure("afdx.ledger: " .. why) end
   state.ledger = ledger
+  if ledger and ledger.run then state.window = Window.open(afdx.prefs.ledger) end
 end
 
 -- What a frame's own bytes tell. The sequence number is the last byte, so a truncated frame has none; the upper three
 -- bits of the source address's last byte name the network.
 local function look_at(buffer, packet)
   local held = buffer:len()
-  local frame = { held = held, length = packet.len, time = packet.abs_ts, number = packet.number - 1 }
+  local frame = { held = held, length = packet.len, number = packet.number - 1 }
+  frame.stamp = timestamp_of(packet.abs_ts)
   local head = buffer:raw(0, math.min(held, 12))
   frame.is_afdx = #head >= 6 and head:sub(1, 4) == state.constant
   if #head >= 6 then frame.vl = head:byte(5) * 256 + head:byte(6) end
@@ -288,7 +424,18 @@ local function look_at(buffer, packet)
   return frame
 end
 
+-- The line of a frame in a ledger of transits. Where no side is set, it is that whose line fits better.
+local function line_of_transit(frame)
+  local side = SIDES[afdx.prefs.side]
+  if side then return line_by_number(side == "before" and state.ledger or state.window, frame, side) end
+  local went_in = line_by_timestamp(state.ledger, frame, "before")
+  local came_out = line_by_timestamp(state.window, frame, "after")
+  if not (went_in and came_out) then return went_in or came_out end
+  return fitness(came_out, frame) > fitness(went_in, frame) and came_out or went_in
+end
+
 local function line_of(frame)
+  if state.window then return line_of_transit(frame) end
   local tap = NETWORKS[afdx.prefs.tap]
   if tap then return line_by_number(state.ledger, frame, tap) end
   return line_by_timestamp(state.ledger, frame)
@@ -321,22 +468,42 @@ local function add_missing(tree, frame, line)
   if name then add(tree, fields.name, name) end
 end
 
--- The fields of a line, and the word with which judgement ended.
-local function add_line(tree, line)
+-- Adds a word of a line, where it has one.
+local function add_word(tree, field, word)
+  if word ~= "-" then add(tree, field, word) end
+end
+
+-- Adds a number of a line, where it has one.
+local function add_number(tree, field, word)
+  if word ~= "-" then add(tree, field, tonumber(word)) end
+end
+
+-- The fields of a line of watch, and the word with which judgement ended.
+local function add_judgement(tree, line)
   add(tree, fields.tap, line.tap)
   add(tree, fields.number, tonumber(line.number))
   local verdict
   for _, judgement in ipairs({ "class", "policing", "integrity", "redundancy" }) do
-    if line[judgement] ~= "-" then
-      verdict = line[judgement]
-      add(tree, fields[judgement], verdict)
-    end
+    add_word(tree, fields[judgement], line[judgement])
+    if line[judgement] ~= "-" then verdict = line[judgement] end
   end
   add(tree, fields.verdict, verdict)
   add(tree, fields.accepted, line.kept ~= "-")
-  if line.kept ~= "-" then add(tree, fields.kept, tonumber(line.kept)) end
+  add_number(tree, fields.kept, line.kept)
   add(tree, fields.mask, tonumber(line.mask, 16))
   return verdict
+end
+
+-- The fields of a line of transit, and what a reader wants to see first of them.
+local function add_transit(tree, line)
+  add(tree, fields.side, line.side)
+  add(tree, fields.index, tonumber(line.number))
+  for _, word in ipairs({ "class", "policing", "outcome" }) do add_word(tree, fields[word], line[word]) end
+  add_number(tree, fields.partner, line.other)
+  add_number(tree, fields.differs, line.differs)
+  if line.latency == "-" then return line.outcome end
+  add(tree, fields.latency, Int64(tonumber(line.latency)))
+  return string.format("%s, %.3f us", line.outcome, tonumber(line.latency) / 1000)
 end
 
 -- Marks a frame without a line. The first one is told where no packet list shows the mark: columns would stay empty
@@ -344,7 +511,8 @@ end
 local function mark_missing(tree, frame)
   tree:add_proto_expert_info(no_line)
   if not state.is_found and not gui_enabled() then
-    report_failure("afdx.ledger: no line for frame " .. frame.number + 1 .. ". Is it this recording's ledger, and is afdx.tap right?")
+    report_failure("afdx.ledger: no line for frame " .. frame.number + 1
+      .. ". Is it this recording's ledger, and are afdx.tap and afdx.side right?")
     state.is_found = true
   end
 end
@@ -355,7 +523,7 @@ local function add_verdict(tree, frame)
   state.is_found = true
   if not agrees(line, frame) then tree:add_proto_expert_info(other_line) end
   add_missing(tree, frame, line)
-  return add_line(tree, line)
+  return line.side and add_transit(tree, line) or add_judgement(tree, line)
 end
 
 -- The text of the tree's top line: a frame's link and number, and the verdict.
