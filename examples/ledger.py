@@ -4,9 +4,11 @@
     frames = ledger.read("flight.ledger")          # a row for each frame
     table = ledger.table("flight.toml")            # a row for each virtual link
     ledger.excess(frames, "10s")
+    transits = ledger.transits("transit.ledger")   # of `afdxmon transit`: a row for each line of a frame
+    ledger.joined("hop1.ledger", "hop2.ledger")    # frames that came through each switch of a path
 
 Needs pandas, and matplotlib for the pictures. Times are exact: nanoseconds in UTC. A word that is `-` in the ledger is
-missing (NA). The columns have the names of docs/LEDGER.md.
+missing (NA). The columns have the names of docs/LEDGER.md and docs/TRANSIT.md.
 """
 import json
 import os
@@ -31,8 +33,19 @@ TYPES = {
     "mask": "string",
 }
 NAMES = ["time", "network", "number", "link", "sequence", "class", "policing", "integrity", "redundancy", "kept", "mask"]
+OUTCOMES = ["passed", "slow", "overtaken", "changed", "lax", "leak", "dropped", "refused", "unrouted", "open"]
+OF_TRANSITS = {
+    **{name: TYPES[name] for name in ("time", "number", "link", "sequence", "class")},
+    "side": pandas.CategoricalDtype(["before", "after"]),
+    "policing": pandas.CategoricalDtype(["within", "excess", "unsure"]),
+    "outcome": pandas.CategoricalDtype([*OUTCOMES, "twice", "new", "elsewhere"]),
+    "other": "Int64",
+    "latency": "Int64",
+    "differs": "Int32",
+}
+TRANSIT_NAMES = ["time", "side", *NAMES[2:7], "outcome", "other", "latency", "differs"]
 DELIVERED = ["deliver", "both"]
-TAIL = 1 << 20  # bytes that hold all lines of counts: 4096 virtual links of at most 160 bytes, and some more
+TAIL = 1 << 22  # bytes that hold all lines of counts: 4096 virtual links of at most 800 bytes, and some more
 
 
 class Incomplete(Exception):
@@ -80,6 +93,36 @@ def read(path):
     """All lines of frames."""
     found = list(parts(path))
     return pandas.concat(found, ignore_index=True) if found else pandas.DataFrame(columns=NAMES)
+
+
+def transits(path):
+    """All lines of frames of a ledger of transits."""
+    count = int(totals(path)["frames"])
+    how = {"skiprows": 2, "nrows": count, "na_values": ["-"], "keep_default_na": False}
+    found = pandas.read_csv(path, sep=" ", names=TRANSIT_NAMES, dtype=OF_TRANSITS, **how)
+    return found.assign(time=pandas.to_datetime(found["time"], unit="ns", utc=True))
+
+
+def latencies(transits):
+    """Of each link how many frames have a latency, the least, the mean, ranks and the greatest, in
+    nanoseconds."""
+    found = transits.dropna(subset=["latency"]).astype({"latency": "int64"})
+    return found.groupby("link")["latency"].describe(percentiles=[0.5, 0.99, 0.999])
+
+
+def joined(*paths):
+    """The frames that came through all switches of a path, by the ledgers of its switches in order: the
+    latency of each as `hop1` and so on, and that of all as `latency`, in nanoseconds."""
+    found, hops = None, [f"hop{at}" for at in range(1, len(paths) + 1)]
+    for hop, path in zip(hops, paths):
+        lines = transits(path).query("side == 'before'").dropna(subset=["other"])
+        if found is None:
+            found = lines[["time", "link", "sequence", "other", "latency"]].rename(columns={"latency": hop})
+        else:
+            names = {"number": "other", "other": "next", "latency": hop}
+            found = found.merge(lines[list(names)].rename(columns=names), on="other")
+            found = found.drop(columns="other").rename(columns={"next": "other"})
+    return found.drop(columns="other").assign(latency=found[hops].sum(axis=1))
 
 
 def table(path):

@@ -5,7 +5,8 @@ import subprocess
 from collections import Counter, defaultdict
 
 from tests.guide import DEBIAN_PYTHON, has_pandas
-from tests.harness import TOP, Case, run
+from tests.harness import TOP, Case, put, run
+from tests.path_flights import SWITCHES, path_flight
 
 FLIGHT = os.path.join(TOP, "examples")
 # What the module finds, as JSON: each in words that the slow reader has too.
@@ -32,6 +33,24 @@ found = {
 }
 ledger.draw_intervals(frames, table, path + ".intervals.png")
 ledger.draw_skew(frames, path + ".skew.png")
+print(json.dumps(found, default=int))
+"""
+
+
+# The same of the ledgers of a path's switches.
+OF_PATH = """
+import json, sys, pandas, ledger
+def rows(frames):
+    given = frames.astype({"time": "int64"}).astype(object)
+    return given.where(given.notna(), None).values.tolist()
+lines = ledger.transits(sys.argv[1])
+of_links = ledger.latencies(lines)[["count", "min", "mean", "max"]]
+found = {
+    "transits": rows(lines),
+    "types": [str(kind) for kind in lines.dtypes],
+    "latencies": of_links.reset_index().values.tolist(),
+    "joined": rows(ledger.joined(*sys.argv[1:])),
+}
 print(json.dumps(found, default=int))
 """
 
@@ -72,10 +91,33 @@ def slowly(path):
     }
 
 
-def found_in(path):
-    environment = {**os.environ, "PYTHONPATH": FLIGHT}
-    table = os.path.join(FLIGHT, "flight.toml")
-    ran = subprocess.run([DEBIAN_PYTHON, "-c", SCRIPT, path, table], capture_output=True, env=environment, text=True)
+def of_latencies(some):
+    return len(some), min(some), sum(some) / len(some), max(some)
+
+
+def path_slowly(first, rows):
+    """The same by the lines of the first ledger, and by the rows of the model that sent the frames."""
+    lines, latencies = [], defaultdict(list)
+    for words in lines_of(first):
+        if words[0].isdigit():
+            numbers = (0, 2, 3, 4, 8, 9, 10)
+            words = [None if it == "-" else int(it) if at in numbers else it for at, it in enumerate(words)]
+            lines.append(words)
+            latencies[words[3]] += [words[9]] if words[9] is not None else []
+    came = [(row[0], row[1], row[3], *row[-1 - SWITCHES :]) for row in rows if row[4] == "came"]
+    words = ["category"] * 3
+    return {
+        "transits": lines,
+        "types": ["datetime64[ns, UTC]", "category", "int64", "Int32", "UInt8", *words, "Int64", "Int64", "Int32"],
+        "latencies": [[link, *of_latencies(some)] for link, some in sorted(latencies.items()) if some],
+        "joined": [list(map(int, words)) for words in came],
+    }
+
+
+def found_in(*words, script=SCRIPT):
+    environment = {**os.environ, "PYTHONPATH": os.pathsep.join([FLIGHT, os.environ.get("PYTHONPATH", "")])}
+    command = [DEBIAN_PYTHON, "-c", script, *words]
+    ran = subprocess.run(command, capture_output=True, env=environment, text=True)
     return json.loads(ran.stdout) if ran.returncode == 0 else ran.stderr[-500:]
 
 
@@ -89,7 +131,7 @@ class Dataframes(Case):
         run(["watch", "--config", tables[0], "--filter", tables[1], *taps, "--ledger", self.ledger])
 
     def test_frames(self):
-        found, expected = found_in(self.ledger), slowly(self.ledger)
+        found, expected = found_in(self.ledger, os.path.join(FLIGHT, "flight.toml")), slowly(self.ledger)
         for name, value in expected.items():
             same = isinstance(found, dict) and (abs(found[name] - value) < 1e-6 if name == "kbit" else found[name] == value)
             self.case(f"examples/ledger.py: {name}", "" if same else f"{str(found[name] if isinstance(found, dict) else found)[:300]}")
@@ -106,3 +148,21 @@ class Dataframes(Case):
         command = [DEBIAN_PYTHON, "-c", "import ledger, sys; ledger.read(sys.argv[1])", self.ledger]
         ran = subprocess.run(command, capture_output=True, env={**os.environ, "PYTHONPATH": FLIGHT})
         self.case("examples/ledger.py: an incomplete ledger", "" if b"ledger.Incomplete" in ran.stderr else f"{ran.stderr[-200:]!r}")
+
+
+class OfPath(Case):
+    def test_path(self):
+        """The ledgers of a path's switches: each line, and the latencies of the frames that came through."""
+        if not has_pandas():
+            self.skipTest("no pandas and matplotlib here")
+        flight = path_flight(1)
+        table = put(self.folder, "table.toml", flight.config)
+        ports = [put(self.folder, f"port{at}.pcap", data) for at, data in enumerate(flight.ports)]
+        ledgers = [os.path.join(self.folder, f"hop{at}.ledger") for at in range(1, SWITCHES + 1)]
+        for before, after, ledger in zip(ports, ports[1:], ledgers):
+            words = ["--config", table, "--before", before, "--after", after, "--ledger", ledger]
+            run(["transit", *words], stdout=subprocess.DEVNULL)
+        found, expected = found_in(*ledgers, script=OF_PATH), path_slowly(ledgers[0], flight.rows)
+        for name, value in expected.items():
+            got = found[name] if isinstance(found, dict) else found
+            self.case(f"examples/ledger.py: {name} of a path", "" if got == value else f"{got}"[:300])

@@ -61,3 +61,42 @@ CREATE TABLE IF NOT EXISTS frames (
     sequence INTEGER, class TEXT NOT NULL, policing TEXT, integrity TEXT, redundancy TEXT, kept BIGINT, mask TEXT NOT NULL,
     PRIMARY KEY (flight, network, number)
 );
+
+-- What follows is of ledgers of transits (docs/TRANSIT.md). A `hop` has the name of its ledger's file: `path`
+-- names those of a path's switches hop1, hop2 .., and the one from its first port to its last `path`.
+
+-- The lines `link`: a row for each side and outcome. All frames of a side together have the outcome `frames`.
+CREATE TABLE IF NOT EXISTS transit_links (
+    flight TEXT NOT NULL, hop TEXT NOT NULL, id INTEGER NOT NULL, name TEXT NOT NULL, side TEXT NOT NULL,
+    outcome TEXT NOT NULL, frames BIGINT NOT NULL,
+    PRIMARY KEY (flight, hop, id, side, outcome)
+);
+
+-- The line `total` in the same way.
+CREATE TABLE IF NOT EXISTS transit_totals (
+    flight TEXT NOT NULL, hop TEXT NOT NULL, side TEXT NOT NULL, outcome TEXT NOT NULL,
+    frames BIGINT NOT NULL,
+    PRIMARY KEY (flight, hop, side, outcome)
+);
+
+-- The lines `tap`.
+CREATE TABLE IF NOT EXISTS transit_taps (
+    flight TEXT NOT NULL, hop TEXT NOT NULL, side TEXT NOT NULL, ending TEXT NOT NULL, frames BIGINT NOT NULL,
+    reason TEXT,
+    PRIMARY KEY (flight, hop, side)
+);
+
+-- The lines `latency`, in nanoseconds. Of all links together `link` is NULL.
+CREATE TABLE IF NOT EXISTS transit_latencies (
+    flight TEXT NOT NULL, hop TEXT NOT NULL, link INTEGER, frames BIGINT NOT NULL, total BIGINT NOT NULL,
+    shortest BIGINT, p50 BIGINT, p99 BIGINT, p999 BIGINT, longest BIGINT,
+    UNIQUE (flight, hop, link)
+);
+
+-- The lines of frames, of ledgers that were loaded with --frames.
+CREATE TABLE IF NOT EXISTS transits (
+    flight TEXT NOT NULL, hop TEXT NOT NULL, nanoseconds BIGINT NOT NULL, side TEXT NOT NULL,
+    number BIGINT NOT NULL, link INTEGER, sequence INTEGER, class TEXT NOT NULL, policing TEXT, outcome TEXT,
+    other BIGINT, latency BIGINT, differs INTEGER,
+    PRIMARY KEY (flight, hop, side, number)
+);
