@@ -9,6 +9,7 @@ import random
 import re
 import struct
 import subprocess
+import sys
 import zlib
 
 from tests.harness import Case, FAULT, PROGRAM, SUCCESS, USAGE, command_of, frame, header, put, read, record, run
@@ -356,9 +357,11 @@ class Memory(Transit):
     def peak(self, config, before, after):
         """The most memory of a run in bytes, and its command."""
         words = [PROGRAM, *self.given(config, before, after, "--ledger", "/dev/null")]
-        child = subprocess.Popen(words, stdout=subprocess.DEVNULL, stderr=subprocess.DEVNULL)
-        _, _, used = os.wait4(child.pid, 0)
-        return used.ru_maxrss * 1024, " ".join(words)
+        # A process counts the memory of the one that starts it, so a small one does.
+        measure = "import resource, subprocess, sys; subprocess.run(sys.argv[1:], stdout=subprocess.DEVNULL, stderr=subprocess.DEVNULL); "
+        measure += "print(resource.getrusage(resource.RUSAGE_CHILDREN).ru_maxrss)"
+        ran = subprocess.run([sys.executable, "-c", measure, *words], stdout=subprocess.PIPE, check=True)
+        return int(ran.stdout) * 1024, " ".join(words)
 
     def test_flat(self):
         before, after = plain_flight(count=200_000)
