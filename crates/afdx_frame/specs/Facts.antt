@@ -1,4 +1,4 @@
--- What is read of a frame's bytes once: its address and its sequence number (ARINC 664 Part 7).
+-- The facts that are read of a frame's bytes once: its address and its sequence number (ARINC 664 Part 7).
 use Rattle.std.specs.Prelude.{◌≡◌, ℕ, List, length, Some, None, nat_le, if◌then◌else◌}
 use Rattle.afdx_frame.specs.View.{constant_of, link_of, sequence_of}
 use Rattle.afdx_frame.specs.declared.facts.Facts.{Facts}

@@ -1,4 +1,4 @@
--- What contracts see of the memory of a frame's captured bytes.
+-- The memory of a frame's captured bytes, as contracts see it.
 use Rattle.std.specs.Prelude.{ℕ, List}
 use Rattle.std.specs.Arc.{arc_value}
 use Rattle.afdx_frame.specs.declared.frame_bytes.FrameBlock.{FrameBlock}

@@ -1,4 +1,4 @@
--- What a frame's bytes say: ARINC 664 Part 7 has the address and puts the sequence number last.
+-- The fields of a frame's bytes: ARINC 664 Part 7 has the address and puts the sequence number last.
 use Rattle.std.specs.Prelude.{ℕ, ◌-◌, List, length, take, drop, Option, Some, None, nat_lt, if◌then◌else◌}
 use Rattle.std.specs.Option.{option_map}
 use Rattle.afdx_frame.specs.declared.key.VlId.{VlId}

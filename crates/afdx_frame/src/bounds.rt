@@ -7,7 +7,7 @@ use crate::key::Stamp;
 /// The most bytes that are captured of a frame: libpcap's largest snapshot length.
 pub const MAX_SNAPLEN: usize = 262_144;
 
-/// Whether a frame of these parts, with so many bytes captured, keeps all bounds.
+/// True if a frame of these parts, with so many bytes captured, keeps all bounds.
 #[inline(always)]
 pub fn is_within_bounds(number: u64, stamp: Stamp, whole: u32, captured: usize) -> bool
     ensures { IsTrue result ↔ AreWithin number stamp.0 whole captured }

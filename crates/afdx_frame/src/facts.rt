@@ -1,4 +1,4 @@
-//! What a frame's bytes say of its address and its place among its link's frames.
+//! The facts that a frame's bytes say: its address, and its place among its link's frames.
 ghost use Rattle.afdx_frame.specs.Facts.{AreFactsOf};
 
 use crate::view::FrameView;
@@ -16,7 +16,7 @@ pub struct Facts {
 }
 
 impl Facts {
-    /// What these bytes say.
+    /// The facts that these bytes say.
     #[inline(always)]
     pub fn of(bytes: &[u8]) -> Facts
         ensures { AreFactsOf bytes.now result }

@@ -70,7 +70,7 @@ pub struct Key {
     pub number: u64,
 }
 
-/// What `Ord` says of keys: the timestamp decides, then network A before B, then the number.
+/// The order of keys that `Ord` gives: the timestamp decides, then network A before B, then the number.
 pub fn key_order()
     ensures { (k l : Key) → ⟦<Key as Ord>⟧.cmp k l ≡ key_cmp k l }
 {}

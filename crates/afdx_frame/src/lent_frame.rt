@@ -141,7 +141,7 @@ impl<'a> LentFrame<'a> {
         self.bytes.len()
     }
 
-    /// What the bytes say of the frame's address and place.
+    /// The facts that the bytes say: the frame's address and place.
     #[inline(always)]
     pub fn facts(&self) -> Facts
         ensures { AreFactsOf self.now.bytes result }

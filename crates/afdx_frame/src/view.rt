@@ -1,4 +1,4 @@
-//! What a frame's bytes say.
+//! A view of a frame's bytes, by what they say.
 ghost use Rattle.std.specs.Prelude.{◌≡◌};
 ghost use Rattle.std.specs.Option.{option_copied};
 ghost use Rattle.afdx_frame.specs.View.{view_bytes, constant_of, link_of, sequence_of, body_of};
@@ -58,7 +58,7 @@ impl<'a> FrameView<'a> {
         self.bytes.last().copied()
     }
 
-    /// What the frame carries: the bytes between the 14 of the Ethernet header and the sequence number,
+    /// The content of the frame: the bytes between the 14 of the Ethernet header and the sequence number,
     /// borrowed. None below 15 bytes.
     pub fn body(&self) -> Option<&'a [u8]>
         ensures { option_copied result ≡ body_of (view_bytes self.now) }

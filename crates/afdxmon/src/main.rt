@@ -9,11 +9,12 @@ mod watching;
 
 use clap::Error;
 use command_line::{
-    CommandLine, Exit, FAILED, Fault, FileOption, Invocation, Typed, USAGE, gathered,
-    has_standard_among, read_arguments,
+    CommandLine, Exit, FAILED, Fault, FileOption, Invocation, Typed, UNWRITTEN_ADVICE, USAGE,
+    gathered, has_standard_among, read_arguments,
 };
 use commands::{
-    arguments, asm, capture, check, cut, debug, links, refuse_streams, report, summarise, transit,
+    arguments, asm, capture, check, cut, cut_transits, debug, links, refuse_streams, report,
+    summarise, transit,
 };
 use messages::{CommandEnd, STANDARD_AMONG, tell};
 use std::io::{ErrorKind, IsTerminal};
@@ -45,6 +46,7 @@ fn tell_unprinted(rt: &HostRuntime, error: io::Error) -> u8 {
     let _ = rt.eprintln(Fault::File(FileOption::Standard));
     if rt.stderr().is_terminal() {
         let _ = eprintln!(rt; "standard output: {error}");
+        let _ = rt.eprintln(UNWRITTEN_ADVICE);
     }
     exit.status()
 }
@@ -92,6 +94,7 @@ fn run<R: Threads + Wait + Sync>(
         Invocation::Capture(given) => capture(rt, &given, taps),
         Invocation::Debug(given) => debug(rt, &given, taps),
         Invocation::Cut(given) => cut(rt, &given, taps),
+        Invocation::TransitCut(given) => cut_transits(rt, &given, taps),
         Invocation::Links(given) => links(rt, &given, taps, reporter.full),
         Invocation::Report(given) => report(rt, &given, taps),
         Invocation::Check(given) => check(rt, &given, taps),
@@ -109,6 +112,7 @@ fn tell_end(rt: &HostRuntime, asked: Invocation<'_>, taps: &Taps, outcome: &Outc
     let _ = tell(rt, taps.named(asked, outcome.at), known);
     let _ = outcome.skipped.tell(rt, &outcome.exit);
     let _ = tell_dropped(rt, outcome);
+    let _ = taps.tell_torn(rt);
 }
 
 /// Carries out what a command line asks for, and tells standard error how it ended: all of it, where that is

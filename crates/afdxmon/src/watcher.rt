@@ -11,7 +11,7 @@ use tap_inputs::{Cause, Outcome, Pauses, Progress, SharedBlocks, Taps};
 use tap_queue::TapGate;
 use watch_run::RunObserver;
 
-/// Who tells standard error of a run.
+/// The reporter that tells standard error of a run.
 #[derive(Drop)]
 pub struct Reporter {
     /// Was its fault told?

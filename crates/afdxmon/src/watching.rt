@@ -192,6 +192,7 @@ fn watch_networks<'x, R: Threads + Wait + Sync>(
         hashed: given.digest,
         progress: progress.as_ref(),
         pauses,
+        resumes: given.resumes,
     };
     let of_b = Reading {
         network: Network::B,

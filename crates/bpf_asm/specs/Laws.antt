@@ -1,4 +1,4 @@
--- What the laws say of a text's statements and of their program.
+-- The laws' claims on a text's statements and on their program.
 use Rattle.std.specs.Prelude.{◌≡◌, ℕ, List, map, Some, slice_get}
 use Rattle.std.specs.Option.{option_and_then}
 use Rattle.bpf_isa.specs.declared.packed.Packed.{Packed}

@@ -1,4 +1,4 @@
--- What statements mean: a run by statements and labels. No code and no distance occurs. The effects are those of McCanne and
+-- The meaning of statements: a run by statements and labels. No code and no distance occurs. The effects are those of McCanne and
 -- Jacobson 1993 and of Linux's Documentation/networking/filter.rst.
 use Rattle.std.specs.Prelude.{◌≡◌, ℕ, ◌+◌, ◌%◌, ◌^◌, Bool, not, List, [], ◌∷◌, Option, Some, None, nat_le, nat_lt, if◌then◌else◌, slice_get, slice_index}
 use Rattle.std.specs.Option.{option_map, option_and_then}

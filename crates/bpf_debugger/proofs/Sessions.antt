@@ -1,4 +1,4 @@
--- What the commands give, of a session's parts.
+-- The results of the commands, of a session's parts.
 use Rattle.std.specs.Prelude.{◌≡◌, ℕ, zero, suc, ℤ, ◌+◌, ◌-◌, ◌<◌, Bool, true, not, List, [], ◌∷◌, length, count_by, fold, if◌then◌else◌, Option, Some, Ok, Err, slice_get, nat_lt, ⊤, MatchOption}
 use Rattle.std.specs.Option.{option_map_or}
 use Rattle.std.proofs.Common.{refl, sym, ap, ◌∙◌, subst, arith, inl, inr}

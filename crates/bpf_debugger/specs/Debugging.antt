@@ -1,4 +1,4 @@
--- What the debugger does. A session has a selected frame, a position on the filter's one run on that frame, and breakpoints. Each
+-- The debugger. A session has a selected frame, a position on the filter's one run on that frame, and breakpoints. Each
 -- command that isn't refused leads from one such state to the next, and replies what is shown there.
 use Rattle.std.specs.Prelude.{◌≡◌, ℕ, ◌<◌, Bool, false, not, List, [], length, replicate, count_by, slice_get, slice_index_or, slice_set, Option, Some, None, Result, MatchResult, nat_lt, if◌then◌else◌, string_bytes}
 use Rattle.std.specs.Option.{option_map, option_map_or}
@@ -131,7 +131,7 @@ Refuses s cmd fault = fault_of s cmd ≡ Some fault
 
 -- ---- commands
 
--- What a command gives: the reply, and the state that it leads to. A refused command leaves the state as it is.
+-- The result of a command: the reply, and the state that it leads to. A refused command leaves the state as it is.
 abbrev pub Gives : SessionState → Command → Result Reply DebugFault → SessionState → Type 0
 Gives before cmd result after =
     MatchResult result

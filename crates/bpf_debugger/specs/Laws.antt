@@ -1,4 +1,4 @@
--- What follows for a whole session.
+-- Laws of a whole session.
 use Rattle.std.specs.Prelude.{◌≡◌, List, [], ◌∷◌, fold, Result, Ok, Err}
 use Rattle.bpf_debugger.specs.declared.command.Command.{Command}
 use Rattle.bpf_debugger.specs.declared.reply.Reply.{Reply}

@@ -1,4 +1,4 @@
--- What a step overwrites, so that it can be undone: the pc, A and X, and of a store the slot's old value.
+-- The record of a step, so that it can be undone: the pc, A and X, and of a store the slot's old value.
 use Rattle.std.specs.Prelude.{ℕ, List, Option, Some, None, if◌then◌else◌, slice_get, slice_index, slice_set}
 use Rattle.bpf_isa.specs.declared.packed.Packed.{Packed}
 use Rattle.bpf_isa.specs.declared.state.State.{State}

@@ -1,4 +1,4 @@
--- What each session keeps.
+-- The claims that each session keeps.
 use Rattle.std.specs.Prelude.{◌≡◌, ℕ, Bool, List, length, Option, Some, MatchOption, slice_get, ⊤}
 use Rattle.std.specs.Option.{option_map}
 use Rattle.afdx_frame.specs.Frame.{Frame}

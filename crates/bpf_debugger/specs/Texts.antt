@@ -1,4 +1,4 @@
--- What the debugger prints (this project's profile): one line for each reply but the listing, which has one for each instruction.
+-- The debugger's print (this project's profile): one line for each reply but the listing, which has one for each instruction.
 use Rattle.std.specs.Prelude.{ℕ, Bool, true, false, List, ◌++◌, codes, decimal, string_bytes}
 use Rattle.std.specs.List.{flat_map}
 use Rattle.bpf_isa.specs.declared.state.State.{State}

@@ -1,4 +1,4 @@
-//! What holds of every run and session by the definitions alone. Each law is the contract of a call that
+//! Laws of every run and session, by the definitions alone. Each law is the contract of a call that
 //! does nothing.
 
 ghost use Rattle.bpf_debugger.specs.Chain.{EachChainIsItsRun};

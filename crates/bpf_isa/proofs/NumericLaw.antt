@@ -1,4 +1,4 @@
--- What is written is read as the same instructions.
+-- Written instructions are read as the same ones.
 use Rattle.std.proofs.Common.{◌≡◌, ℕ, suc, ◌+◌, ◌^◌, ◌<◌, ◌≤◌, Bool, true, false, not, leb, eqb, List, [], ◌∷◌, ◌++◌, length, All, None, Ok, refl, ap, ◌∙◌, append_assoc, arith, rules, eq-eqb, lit<}
 use Rattle.std.specs.Prelude.{fold, decimal, position, ◌||◌}
 use Rattle.std.specs.Char.{is_ascii_digit}

@@ -140,7 +140,7 @@ pub record HasCount (text : List ℕ) : Type 0 where
   pub counted : count_of first.0 first.1 ≡ Ok count
   pub positive : 0 < count
 
--- ---- What a reader returns: this, or out of memory.
+-- ---- The result of a reader: this, or out of memory.
 
 abbrev pub IsFault : {Y : Type 0} → NumericFault → Result Y NumericFault → Type 0
 IsFault Memory read = Unit {0}

@@ -1,4 +1,4 @@
-//! What an instruction works on, and the two limits that bound a pc and a slot.
+//! The state that an instruction works on, and the two limits that bound a pc and a slot.
 
 ghost use Rattle.std.specs.Prelude.{◌≡◌};
 ghost use Rattle.bpf_isa.specs.Machine.{start};

@@ -65,7 +65,7 @@ stopped f items g rest fault s =
     let here : (read rest g ≡ finish g rest) × (fault ≡ refuse g rest) = stop_here rest g fault s.3 in
     (ap (λ (is : List Item). read is f) s.1 ∙ stop_after s.0 f g rest s.2 ∙ here.0, here.1)
 
--- ---- What is left when tokens were read spells the form after them
+-- ---- The rest after tokens were read spells the form after them
 
 after_spells : (f : Form) (token : Token) (h : Form) (tokens : List Token) (s : Statement) → after f token ≡ Some h → Spells h tokens s → Spells f (token ∷ tokens) s
 after_spells (Gives t) token h tokens s e spells = absurd (cc)
@@ -144,7 +144,7 @@ Good (Gives s) = Unit {0}
 Good (Then s f) = (said : Said s) → Good (f said)
 Good (Either f g) = Good f × Good g × (apart (firsts f) (firsts g) ≡ true) × (is_none (whole f) ≡ true) × ((is_none (whole g) || marks_alone (firsts f ++ firsts g)) ≡ true)
 
--- ---- What a form spells is read
+-- ---- A form is read as what it spells
 
 fits_key : (s : Symbol) (token : Token) (said : Said s) → fits s token ≡ Some said → key s ≡ token_key token
 fits_key (Sign mark) (Mark b) said e = go (b == mark) refl e
@@ -258,7 +258,7 @@ only_marks (Either f g) s token h good w e = go (whole g) refl good.4
         neither (Some t) p = let n : is_none (Some t) ≡ true = ap is_none (sym p) ∙ good.3 in absurd (cc)
     go (Some t) o m = has_marks (token_key token) (firsts f ++ firsts g) m (firsts_have (Either f g) token h e)
 
--- ---- What is left of a form is what may follow
+-- ---- The rest of a form is what may follow
 
 good_after : (f : Form) (token : Token) (h : Form) → Good f → after f token ≡ Some h → Good h
 good_after (Gives t) token h good e = absurd (cc)

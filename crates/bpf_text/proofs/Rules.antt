@@ -1,4 +1,4 @@
--- What the parser's functions read is what the forms of the grammar give.
+-- The parser's functions read what the forms of the grammar give.
 use Rattle.std.proofs.Common.{◌≡◌, ℕ, true, false, cond, ◌==◌, List, [], ◌∷◌, Option, Some, None, refl, ◌∙◌, Ok, Err, nat_lt, nat_le, ◌^◌, ◌%◌, ◌-◌}
 use Rattle.bpf_text.specs.declared.keyword.Mnemonic.{Mnemonic}
 use Rattle.bpf_text.specs.declared.keyword.Mnemonic.TheVariants.{Ld, Ldi, Ldh, Ldb, Ldx, Ldxi, Ldxb, St, Stx, Jmp, Ja, Jeq, Jneq, Jne, Jlt, Jle, Jgt, Jge, Jset, Add, Sub, Mul, Div, Mod, Neg, And, Or, Xor, Lsh, Rsh, Tax, Txa, Ret}

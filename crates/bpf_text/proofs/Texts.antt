@@ -83,7 +83,7 @@ are_read : (items : List Item) (ss : List Statement) (rest : List Item) → AreW
 are_read items [] rest e = e
 are_read items (s ∷ ss) rest h = (h.1, whole_read items s h.1 (h.0, h.2, h.3, h.4), are_read h.1 ss rest h.5)
 
--- ---- What is read is derived
+-- ---- Statements that are read are derived
 
 labelled_or_not : (items : List Item) (first : Lexeme) (rest : List Item) (tokens : List Token) (s : Statement) → items ≡ Lexed first ∷ rest → Spells (form_at items) tokens s → Spells (statement first.at) tokens s
 labelled_or_not items first rest tokens s e spells = by_rest rest (subst (λ (is : List Item). Spells (form_at is) tokens s) e spells)
@@ -168,7 +168,7 @@ read_source items ss rest ends h e =
     let last : (at : ℕ) × (rest ≡ End at ∷ []) = end_alone rest (ends_after d.0 rest (subst EndsOnce d.1 ends)) e in
     (d.0, last.0, d.1 ∙ ap (λ (is : List Item). map Lexed d.0 ++ is) last.1, d.2)
 
--- ---- What is derived is read
+-- ---- Statements that are derived are read
 
 -- nothing but a comma goes on with a whole statement, and no statement begins with a mark
 abbrev Begins : List Item → Type 0

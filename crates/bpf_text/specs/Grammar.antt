@@ -12,7 +12,7 @@ use Rattle.bpf_text.specs.declared.statement.Source.{Source}
 use Rattle.bpf_text.specs.declared.statement.Source.TheVariants.{K, X}
 use Rattle.bpf_text.specs.Tokens.{Token, Word, Name, Num, Mark, Lexeme, Item, Lexed, Bad, End, at_end}
 
--- ---- What source says
+-- ---- The statements that source says
 
 -- an operand, with its names as bytes
 pub data Operand : Type 0 where

@@ -13,7 +13,7 @@ OneReading text =
     × ((ss : List Statement) (fault : TextFault) → Sources text ss → HasFault (items_at text 0) fault → ⊥)
     × (((ss : List Statement) × Sources text ss) ⊎ ((fault : TextFault) × HasFault (items_at text 0) fault))
 
--- What is left of the form of statements after some tokens is what may follow them: the same tokens end a statement, there
+-- The rest of the form of statements after some tokens is what may follow them: the same tokens end a statement, there
 -- are such tokens, and none of them begin with a token that is refused.
 abbrev pub LeavesWhatMayFollow : Type 0
 LeavesWhatMayFollow = (at : ℕ) (lexemes : List Lexeme) (left : Form) → Leaves (statement at) lexemes left

@@ -28,7 +28,7 @@ statement_of s = record { at = s.at; label = option_map (λ name. name.now) s.la
 abbrev pub Sources : List ℕ → List grammar.Statement → Type 0
 Sources text ss = grammar.IsSourceOf (items_at text 0) ss
 
--- What the reader answers for a text that isn't source: the fault at the least offset. Memory can only run out where at
+-- The reader's answer for a text that isn't source: the fault at the least offset. Memory can only run out where at
 -- least one whole statement stands.
 abbrev pub FaultFits : List ℕ → TextFault → Type 0
 FaultFits text fault = grammar.HasFault (items_at text 0) fault ⊎ ((fault ≡ Memory) × grammar.BeginsWithStatement (items_at text 0))

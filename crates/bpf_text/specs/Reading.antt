@@ -1,4 +1,4 @@
--- What each private function of the parser reads. No public clause cites this page: `Grammar` says what source is, and
+-- The reading of each private function of the parser. No public clause cites this page: `Grammar` says what source is, and
 -- `proofs/Rules.antt` shows that the two agree.
 use Rattle.std.specs.Prelude.{ℕ, ◌-◌, ◌%◌, ◌^◌, Bool, true, false, ◌==◌, List, Option, Some, None, Result, Ok, Err, nat_lt, nat_le, if◌then◌else◌}
 use Rattle.bpf_text.specs.declared.fault.TextFault.{TextFault}

@@ -138,7 +138,7 @@ begins_with_mark mark (End at ∷ items) = false
 abbrev pub after_mark : ℕ → List Item → Bool × List Item
 after_mark mark items = if begins_with_mark mark items then (true, drop 1 items) else (false, items)
 
--- What a function returned, seen by view, with the items that it left, is what reading the items gives.
+-- The result of a function, seen by view, with the items that it left, is what reading the items gives.
 abbrev pub Parses : {X Y : Type 0} → (X → Y) → Result X TextFault → List Item → Result (Y × List Item) TextFault → Type 0
 Parses view (Ok x) items read = read ≡ Ok (view x, items)
 Parses view (Err fault) items read = read ≡ Err fault

@@ -3,7 +3,7 @@
 ghost use Rattle.std.specs.Prelude.{◌≡◌, map};
 ghost use Rattle.bpf_text.specs.Keywords.{keywords, with_first, keyword_in, keyword_of};
 
-/// What an instruction does, by its name in the source.
+/// The operation of an instruction, by its name in the source.
 #[derive(Clone, Copy, PartialEq, Eq)]
 pub enum Mnemonic {
     /// Loads A: a word of the packet, a scratch memory slot, a number or the packet's length.

@@ -129,7 +129,7 @@ impl<'a> Lexer<'a> {
         }
     }
 
-    /// Whether only blanks and comments are left. Skips the blanks and comments at the front.
+    /// True if only blanks and comments are left. Skips the blanks and comments at the front.
     pub(crate) fn is_at_end(&mut self) -> bool
         ensures items { items self.new ≡ items self.old }
         ensures end { result ≡ at_end (items self.old) }

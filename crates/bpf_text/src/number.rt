@@ -23,7 +23,7 @@ fn split_radix(word: &[u8]) -> (u32, &[u8])
     }
 }
 
-/// Whether these are one digit or more, and nothing else.
+/// True if these are one digit or more, and nothing else.
 fn is_numeral(radix: u32, digits: &[u8]) -> bool
     requires low { 2 ≤ radix }
     requires high { radix ≤ 36 }

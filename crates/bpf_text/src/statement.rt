@@ -1,4 +1,4 @@
-//! What a source text says, before any label is looked up: the assembler gives it instructions.
+//! The statements of a source text, before any label is looked up: the assembler gives it instructions.
 
 use crate::keyword::Mnemonic;
 

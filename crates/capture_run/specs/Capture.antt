@@ -1,4 +1,4 @@
--- What the command `capture` leaves, by what its devices show (this project's profile).
+-- The command `capture`: what it leaves, by what its devices show (this project's profile).
 use Rattle.std.specs.Prelude.{ℕ, List, Result, Ok, Err}
 use Rattle.bpf_isa.specs.declared.packed.Packed.{Packed}
 use Rattle.pcap_io.specs.declared.recording.Ending.{Ending}

@@ -1,4 +1,4 @@
--- What a copy does of the packets after a recording's file header (this project's profile): what it read, what it wrote, and why it stopped.
+-- A copy of the packets after a recording's file header (this project's profile): what it read, what it wrote, and why it stopped.
 use Rattle.std.specs.Prelude.{◌≡◌, ◌⊎◌, ℕ, ◌≤◌, ◌<◌, List, [], ◌∷◌, ◌++◌, length, take, Option, Some, Result, Ok, Err, IfSome}
 use Rattle.std.specs.Io.KnownBytes.{Appends}
 use Rattle.afdx_frame.specs.Frame.{Frame}
@@ -18,7 +18,7 @@ use Rattle.run_fault.specs.declared.fault.Output.TheVariants as output
 use Rattle.run_fault.specs.declared.fault.WatchFault.{WatchFault}
 use Rattle.run_fault.specs.declared.fault.WatchFault.TheVariants as watch
 
--- What a call that writes a frame's packet leaves of the sink. Memory is missing only for the packet of an accepted frame.
+-- A call that writes a frame's packet leaves the sink so. Memory is missing only for the packet of an accepted frame.
 abbrev pub WritesAccepted : Format → List Packed → Frame → Result (Unit {0}) WatchFault → Option (List ℕ) → Option (List ℕ) → ℕ → ℕ → Type 0
 WritesAccepted format p f (Ok done) old new before after = Appends old new (packet_of format p f) × (after ≡ before)
 WritesAccepted format p f (Err (watch.Write output.Capture)) old new before after = AppendsPrefix old new (packet_of format p f) × CountsFailure before after

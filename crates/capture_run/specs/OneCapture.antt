@@ -1,4 +1,4 @@
--- What a capture is, what a whole run leaves, and why it was aborted (this project's profile). The bytes of a capture in each format are those of
+-- A capture, what a whole run leaves, and why it was aborted (this project's profile). The bytes of a capture in each format are those of
 -- packet_format; a packet has no comment here.
 use Rattle.std.specs.Prelude.{◌≡◌, ◌⊎◌, ℕ, ◌<◌, min, List, [], ◌∷◌, ◌++◌, length, take, Option, None, Err, IfSome, ◌==◌, if◌then◌else◌}
 use Rattle.std.specs.Io.KnownBytes.{Appends}

@@ -1,4 +1,4 @@
-//! What was found of the inputs of a run.
+//! The findings on the inputs of a run.
 
 use command_line::Fault;
 use table_check::TableFault;

@@ -1,12 +1,14 @@
 //! The answer as JSON.
 
+use crate::advice::QuestionAdvice;
 use crate::answer::{Answer, FilterAnswer, TapAnswer};
 use crate::faults::{ToldFault, told_faults};
 use crate::lines::kind_word;
+use crate::questions::QuestionText;
 use crate::verdict::verdict_of;
-use crate::words::{QuestionText, Utc, format_words, question_word};
+use crate::words::{Utc, format_words, question_word};
 use afdx_frame::{Network, VlId};
-use command_line::{Fault, reason_words};
+use command_line::{Fault, join_advice, reason_words};
 use pcap_io::Ending;
 use serde::Serialize;
 use serde_json::Error;
@@ -218,9 +220,10 @@ fn difference_of(alloc: Global, question: &Question) -> Result<Option<JsonDiffer
 fn questions_of(alloc: Global, questions: &[Question]) -> Result<Vec<JsonQuestion>, AllocError> {
     let mut list = Vec::new(alloc);
     for question in questions {
-        let mut text = String::new(alloc);
-        let asked = QuestionText(question);
-        write!(text, "{asked}")?;
+        let (asked, advice) = (QuestionText(question), QuestionAdvice(question));
+        let mut text = asked.to_string(alloc)?;
+        let advice = advice.to_string(alloc)?;
+        join_advice(&mut text, &advice)?;
         list.push(JsonQuestion {
             question: question_word(question),
             text,

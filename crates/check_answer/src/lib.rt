@@ -2,10 +2,12 @@
 //! `watch` with these inputs would be sound.
 #![tactic(auto)]
 
+mod advice;
 mod answer;
 mod faults;
 mod json;
 mod lines;
+mod questions;
 mod text;
 mod verdict;
 mod words;

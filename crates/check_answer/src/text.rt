@@ -1,15 +1,20 @@
 //! The answer as text.
 
+use crate::advice::QuestionAdvice;
 use crate::answer::{Answer, FilterAnswer, TapAnswer};
 use crate::faults::{ToldFault, told_faults};
 use crate::lines::{push_absent, push_foreign, push_unlisted};
+use crate::questions::QuestionText;
 use crate::verdict::verdict_of;
-use crate::words::{Counted, QuestionText, Utc, format_words};
-use command_line::{Fault, Shown, reason_words};
+use crate::words::{Counted, Utc, format_words};
+use command_line::{Fault, Shown, push_advice, push_wrapped, reason_words};
 use pcap_io::Ending;
 use std::alloc::{AllocError, Global};
 use std::fmt::Write;
-use traffic_survey::Overlap;
+use traffic_survey::{Overlap, Question};
+
+/// How many columns a line of a question has at most.
+const COLUMNS: usize = 100;
 
 /// The fault line of a command, without what begins each.
 fn push_fault(out: &mut String, alloc: Global, fault: &Fault) -> Result<(), AllocError> {
@@ -161,6 +166,16 @@ fn push_dropped(out: &mut String, answer: &Answer<'_>) -> Result<(), AllocError>
     Ok(())
 }
 
+/// Writes a question in lines of at most 100 columns, and below it what to do.
+fn push_question(out: &mut String, alloc: Global, question: &Question) -> Result<(), AllocError> {
+    let (asked, advice) = (QuestionText(question), QuestionAdvice(question));
+    let mut line = String::new(alloc);
+    write!(line, "question: {asked}")?;
+    push_wrapped(out, COLUMNS, 0, &line)?;
+    let advice = advice.to_string(alloc)?;
+    push_advice(out, &advice)
+}
+
 /// Writes the part of the recordings that was read, where that isn't all of them.
 fn push_extent(out: &mut String, answer: &Answer<'_>) -> Result<(), AllocError> {
     for (network, tap) in [("A", answer.a), ("B", answer.b)] {
@@ -191,8 +206,7 @@ pub fn text_of(alloc: Global, answer: &Answer<'_>) -> Result<String, AllocError>
     }
     push_taps(&mut out, alloc, answer)?;
     for question in answer.questions {
-        let asked = QuestionText(question);
-        writeln!(out, "question: {asked}")?;
+        push_question(&mut out, alloc, question)?;
     }
     if answer.a.is_some() || answer.b.is_some() {
         push_absent(&mut out, answer.inputs)?;

@@ -1,4 +1,4 @@
-//! Whether a run would be sound.
+//! The verdict on a run: would it be sound?
 
 ghost use Rattle.std.specs.Prelude.{◌≡◌};
 ghost use Rattle.check_answer.specs.Verdict.{is_sound};

@@ -1,4 +1,4 @@
--- What the text of a number says.
+-- The text of a number, and what it says.
 use Rattle.std.proofs.Common.{◌≡◌, ℕ, ◌<◌, ◌^◌, Bool, true, false, ◌&&◌, [], ◌∷◌, length, Some, None, Err, refl, ap}
 use Rattle.std.proofs.lemmas.Bool.{lt-ltb, ltb-true}
 use Rattle.std.specs.Prelude.{nat_lt, if◌then◌else◌}

@@ -1,4 +1,4 @@
--- What the options of `cut` select, by their texts (this project's profile).
+-- The lines that options of `cut` select, by their texts (this project's profile).
 use Rattle.std.specs.Prelude.{◌≡◌, ◌⊎◌, ◌↔◌, ℕ, ◌+◌, ◌-◌, Bool, true, false, nat_lt, nat_le, min, List, Option, None, Some, Result, Ok, Err, flat_map, option_map, if◌then◌else◌, ⊤}
 use Rattle.std.specs.List.{All}
 use Rattle.std.specs.Str.{bytes_eq}

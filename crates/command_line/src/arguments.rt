@@ -21,6 +21,8 @@ pub enum Invocation<'a> {
     Debug(DebugArguments<'a>),
     /// Copy the frames of two recordings that a selection of their ledger's lines names.
     Cut(CutArguments<'a>),
+    /// Copy the frames of a switch's recordings that a selection of their ledger's lines names.
+    TransitCut(TransitCutArguments<'a>),
     /// Draft a table of virtual links from what recordings have.
     Links(LinksArguments<'a>),
     /// Write a page on what a ledger says.
@@ -91,6 +93,8 @@ pub struct WatchArguments<'a> {
     pub quiet: bool,
     /// Does a recording that ends early make the run fail?
     pub strict: bool,
+    /// Does a recording go on with its next file behind one that ends within a packet, or is damaged?
+    pub resumes: bool,
     /// Is the capture a pcapng file, whose packets have their verdicts as comments?
     pub pcapng: bool,
     /// How late a timestamp may be, in place of what the table says.
@@ -162,7 +166,7 @@ pub struct LinksArguments<'a> {
 /// Which findings make a report fail.
 #[derive(Clone, Copy, PartialEq, Eq)]
 pub enum FailOn {
-    /// Those of level trouble.
+    /// Findings of level trouble.
     Trouble,
     /// These, and those of level notice.
     Notice,
@@ -182,6 +186,8 @@ pub struct ReportArguments<'a> {
     pub baseline: Option<&'a str>,
     /// The table of that flight, where it was another one.
     pub baseline_config: Option<&'a str>,
+    /// The ledger of transits through a switch that it tells of too.
+    pub transit: Option<&'a str>,
     /// The part of the ledger that it is about: a first moment, a last one, links, a network.
     pub from: Option<&'a str>,
     pub to: Option<&'a str>,
@@ -238,7 +244,7 @@ pub struct TransitArguments<'a> {
     pub bound: Option<u64>,
     /// The links that are routed to the port out.
     pub routed: Option<&'a str>,
-    /// What is added to each timestamp of the recording at the port out.
+    /// The nanoseconds that are added to each timestamp of the recording at the port out.
     pub shift: i64,
     /// Does policing charge each frame its link's Smax, not its size?
     pub by_frames: bool,
@@ -250,6 +256,33 @@ pub struct TransitArguments<'a> {
     pub ledger: Option<&'a str>,
     /// Is the answer written as JSON in place of text?
     pub json: bool,
+}
+
+/// A ledger of transits, its recordings, and which of its lines are taken. `-` is standard input or output.
+#[derive(Clone, Copy, PartialEq, Eq)]
+pub struct TransitCutArguments<'a> {
+    /// The ledger of transits.
+    pub ledger: &'a str,
+    /// The recording at the port in. One of the two is given.
+    pub before: Option<&'a str>,
+    /// The recording at the port out.
+    pub after: Option<&'a str>,
+    /// The table of virtual links, which has their names.
+    pub config: Option<&'a str>,
+    /// Virtual links: identifiers, ranges of them, or names.
+    pub link: Option<&'a str>,
+    /// Words of the ledger's outcomes.
+    pub verdict: Option<&'a str>,
+    /// The first moment.
+    pub from: Option<&'a str>,
+    /// The last moment.
+    pub to: Option<&'a str>,
+    /// How long after the first moment the last one is, in place of that.
+    pub span: Option<&'a str>,
+    /// Are the packets written as a pcapng file, with their outcomes as comments?
+    pub pcapng: bool,
+    /// Where packets are written.
+    pub output: &'a str,
 }
 
 /// The text of an argument that clap requires or has a default for.
@@ -312,6 +345,7 @@ fn watch_arguments<'a>(given: &ArgMatches<'a>) -> Result<WatchArguments<'a>, Mis
         ledger: needed(given, "ledger")?,
         manifest: given.get_str("manifest"),
         digest: flag(given, "digest")?,
+        resumes: flag(given, "resume-after-cut")?,
         workers: given.get_one("workers").ok_or(Misuse::Incomplete)?,
         quiet: flag(given, "quiet")?,
         strict: flag(given, "strict")?,
@@ -352,9 +386,9 @@ fn debug_arguments<'a>(given: &ArgMatches<'a>) -> Result<DebugArguments<'a>, Mis
     })
 }
 
-/// The options of `cut`.
-fn cut_arguments<'a>(given: &ArgMatches<'a>) -> Result<CutArguments<'a>, Misuse> {
-    let cut = CutArguments {
+/// The options of `cut`, whatever ledger it is by.
+fn cut_options<'a>(given: &ArgMatches<'a>) -> Result<CutArguments<'a>, Misuse> {
+    Ok(CutArguments {
         ledger: needed(given, "ledger")?,
         a: given.get_str("a"),
         b: given.get_str("b"),
@@ -370,9 +404,47 @@ fn cut_arguments<'a>(given: &ArgMatches<'a>) -> Result<CutArguments<'a>, Misuse>
         ledger_only: flag(given, "ledger-only")?,
         pcapng: flag(given, "pcapng")?,
         output: needed(given, "output")?,
-    };
+    })
+}
+
+/// The options of `cut` by a ledger of transits. Those of a ledger of `watch` alone are refused.
+fn transit_cut_arguments<'a>(given: &ArgMatches<'a>) -> Result<TransitCutArguments<'a>, Misuse> {
+    let cut = cut_options(given)?;
+    let is_of_watch = cut.a.is_some()
+        || cut.b.is_some()
+        || cut.network.is_some()
+        || cut.filters.is_some()
+        || cut.around > 0
+        || cut.ledger_only;
+    if is_of_watch {
+        return Err(Misuse::OfWatch);
+    }
+    if cut.to.is_some() && cut.span.is_some() {
+        return Err(Misuse::TwoEnds);
+    }
+    Ok(TransitCutArguments {
+        ledger: cut.ledger,
+        before: given.get_str("before"),
+        after: given.get_str("after"),
+        config: cut.config,
+        link: cut.link,
+        verdict: cut.verdict,
+        from: cut.from,
+        to: cut.to,
+        span: cut.span,
+        pcapng: cut.pcapng,
+        output: cut.output,
+    })
+}
+
+/// The request of `cut`: by a ledger of transits where a recording of a switch is given.
+fn cut_invocation<'a>(given: &ArgMatches<'a>) -> Result<Invocation<'a>, Misuse> {
+    if given.get_str("before").is_some() || given.get_str("after").is_some() {
+        return Ok(Invocation::TransitCut(transit_cut_arguments(given)?));
+    }
+    let cut = cut_options(given)?;
     check_cut(&cut)?;
-    Ok(cut)
+    Ok(Invocation::Cut(cut))
 }
 
 /// Refuses packets without a recording, a format of packets where none are written, two ends of a span, and a
@@ -438,6 +510,7 @@ fn report_arguments<'a>(given: &ArgMatches<'a>) -> Result<ReportArguments<'a>, M
         manifest: given.get_str("manifest"),
         baseline: given.get_str("baseline"),
         baseline_config: given.get_str("baseline-config"),
+        transit: given.get_str("transit"),
         from: given.get_str("from"),
         to: given.get_str("to"),
         link: given.get_str("link"),
@@ -538,7 +611,7 @@ fn invocation_of<'a>(name: &str, given: &ArgMatches<'a>) -> Result<Invocation<'a
         "asm" => Ok(Invocation::Asm),
         "watch" => Ok(Invocation::Watch(watch_arguments(given)?)),
         "debug" => Ok(Invocation::Debug(debug_arguments(given)?)),
-        "cut" => Ok(Invocation::Cut(cut_arguments(given)?)),
+        "cut" => cut_invocation(given),
         "links" => Ok(Invocation::Links(links_arguments(given)?)),
         "report" => Ok(Invocation::Report(report_arguments(given)?)),
         "check" => Ok(Invocation::Check(check_arguments(given)?)),

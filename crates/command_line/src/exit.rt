@@ -18,7 +18,8 @@ pub const FAILED: u8 = 3;
 
 /// The words for a person whose terminal packets would be written to.
 pub const TO_A_TERMINAL: &str = "\
-afdxmon: packets aren't written to a terminal: name a file by -o (of watch by --capture), or use a pipe";
+afdxmon: packets aren't written to a terminal
+Name a file by -o (of watch by --capture), or use a pipe";
 
 /// Findings of a report that it was told to fail on.
 #[derive(Clone, Copy)]

@@ -9,6 +9,8 @@ use cut_run::CutFault;
 use icd_links::IcdFault;
 use ledger_text::LineFault;
 use run_fault::WatchFault;
+use transit_cut::TransitCutFault;
+use transit_ledger::TransitFault;
 use vl_config::ConfigFault;
 
 /// A file, by the option that names it.
@@ -42,6 +44,8 @@ pub enum FileOption {
     BaselineConfig,
     /// The table of links that is written as comma-separated values.
     Csv,
+    /// The ledger of transits through a switch that a report tells of.
+    Transit,
 }
 
 /// An option whose text selects frames of a ledger.
@@ -51,6 +55,8 @@ pub enum SelectionOption {
     /// The links that are routed to a port.
     Routed,
     Verdict,
+    /// The outcomes of a ledger of transits.
+    Outcome,
     From,
     To,
     Span,
@@ -59,7 +65,7 @@ pub enum SelectionOption {
 }
 
 /// The contradictions of a ledger's line to the lines before it, or to the table.
-#[derive(Clone, Copy, Debug, PartialEq, Eq)]
+#[derive(Clone, Copy, PartialEq, Eq)]
 pub enum Contradiction {
     /// A frame's line is of a link that the table doesn't have, and says that it has.
     Link,
@@ -73,7 +79,7 @@ pub enum Contradiction {
 }
 
 /// Why a manifest isn't that of a report's table and ledger.
-#[derive(Clone, Copy, Debug, PartialEq, Eq)]
+#[derive(Clone, Copy, PartialEq, Eq)]
 pub enum ManifestFault {
     /// A line, counted from 1, at which the text isn't that of a manifest.
     Form { line: u64 },
@@ -86,7 +92,7 @@ pub enum ManifestFault {
 }
 
 /// Why a report of a ledger is aborted. Lines are counted from 1.
-#[derive(Clone, Copy, Debug, PartialEq, Eq)]
+#[derive(Clone, Copy, PartialEq, Eq)]
 pub enum ReportFault {
     /// A line that no ledger has there.
     Ledger { line: u64, fault: LineFault },
@@ -130,6 +136,8 @@ pub enum Fault {
     Watch(WatchFault),
     /// A pass over the recordings at both ports of a switch, as network A that into it, as B that out of it.
     Transit(WatchFault),
+    /// A cut by a ledger of transits was aborted.
+    TransitCut(TransitCutFault),
     /// The manifest of a run can't be written.
     Manifest,
     /// A session of the debugger that isn't begun: there is no memory for it.
@@ -150,6 +158,8 @@ pub enum Fault {
     Report(ReportFault),
     /// The ledger of an earlier flight, which is read as the report's own.
     Baseline(ReportFault),
+    /// The ledger of transits that a report tells of.
+    TransitLedger(TransitFault),
     /// A text that isn't the constant field of a draft's links.
     Constant,
     /// The document that specifies a draft's links.
@@ -158,6 +168,6 @@ pub enum Fault {
     Draft(ConfigFault),
     /// A run with what `check` was given would not be sound: its answer says why.
     Unsound,
-    /// What `transit` found leaves a question open: its answer says which.
+    /// The findings of `transit` leave a question open: its answer says which.
     Questioned,
 }

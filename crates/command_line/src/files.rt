@@ -2,7 +2,7 @@
 
 use crate::arguments::{
     CaptureArguments, CutArguments, DebugArguments, FilterArgument, Invocation, ReportArguments,
-    TransitArguments, WatchArguments,
+    TransitArguments, TransitCutArguments, WatchArguments,
 };
 use crate::fault::{Fault, FileOption};
 
@@ -21,7 +21,7 @@ pub struct GivenFile<'a> {
 }
 
 /// The most files that a command has.
-pub const MAX_FILES: usize = 7;
+pub const MAX_FILES: usize = 8;
 
 /// No file.
 const NO_FILE: GivenFile<'static> = GivenFile {
@@ -68,7 +68,7 @@ fn filter_file<'a>(filter: FilterArgument<'a>) -> GivenFile<'a> {
 
 /// The files of `watch`.
 fn watch_files(given: WatchArguments<'_>) -> [GivenFile<'_>; MAX_FILES] {
-    [
+    only(&[
         read(FileOption::Config, Some(given.config)),
         read(FileOption::Filter, given.filter),
         read(FileOption::A, given.a),
@@ -76,7 +76,7 @@ fn watch_files(given: WatchArguments<'_>) -> [GivenFile<'_>; MAX_FILES] {
         written(FileOption::Capture, given.capture),
         written(FileOption::Ledger, Some(given.ledger)),
         written(FileOption::Manifest, given.manifest),
-    ]
+    ])
 }
 
 /// The files of `cut`.
@@ -90,6 +90,17 @@ fn cut_files(given: CutArguments<'_>) -> [GivenFile<'_>; MAX_FILES] {
     ])
 }
 
+/// The files of `cut` by a ledger of transits.
+fn transit_cut_files(given: TransitCutArguments<'_>) -> [GivenFile<'_>; MAX_FILES] {
+    only(&[
+        read(FileOption::Ledger, Some(given.ledger)),
+        read(FileOption::Before, given.before),
+        read(FileOption::After, given.after),
+        read(FileOption::Config, given.config),
+        written(FileOption::Output, Some(given.output)),
+    ])
+}
+
 /// The files of `report`.
 fn report_files(given: ReportArguments<'_>) -> [GivenFile<'_>; MAX_FILES] {
     only(&[
@@ -98,6 +109,7 @@ fn report_files(given: ReportArguments<'_>) -> [GivenFile<'_>; MAX_FILES] {
         read(FileOption::Ledger, Some(given.ledger)),
         read(FileOption::Baseline, given.baseline),
         read(FileOption::BaselineConfig, given.baseline_config),
+        read(FileOption::Transit, given.transit),
         written(FileOption::Output, Some(given.output)),
         written(FileOption::Csv, given.csv),
     ])
@@ -137,6 +149,7 @@ impl<'a> Invocation<'a> {
             ]),
             Invocation::Report(given) => report_files(given),
             Invocation::Transit(given) => transit_files(given),
+            Invocation::TransitCut(given) => transit_cut_files(given),
             Invocation::Check(given) => only(&[
                 read(FileOption::Config, Some(given.config)),
                 read(FileOption::Filter, given.filter),

@@ -100,8 +100,8 @@ impl Display for HeadWords {
     fn fmt<W: fmt::Write>(&self, f: &mut Formatter<W>) -> fmt::Result {
         match self.0 {
             HeadFault::NoId => f.write_str(
-                "the first row has the columns' heads: id, and any of name, bag_ms, jitter_us, \
-                 smax, integrity, redundancy, skew_us; none is id, and --column id=HEAD names it",
+                "no head is id; others may be name, bag_ms, jitter_us, smax, integrity, redundancy and \
+                 skew_us",
             ),
             HeadFault::Twice(key) => {
                 let name = key.name();

@@ -23,11 +23,12 @@ mod shown;
 mod summary;
 mod usage;
 mod words;
+mod wrapped;
 
 pub use arguments::{
     CaptureArguments, CheckArguments, CommandLine, CutArguments, DebugArguments, FailOn,
-    FilterArgument, Invocation, LinksArguments, ReportArguments, TransitArguments, WatchArguments,
-    read_arguments,
+    FilterArgument, Invocation, LinksArguments, ReportArguments, TransitArguments,
+    TransitCutArguments, WatchArguments, read_arguments,
 };
 pub use caret::{Caret, Place, caret_at, place_at};
 pub use exit::{Exit, FAILED, Found, TO_A_TERMINAL, USAGE};
@@ -38,8 +39,8 @@ pub use kinds::kinds_in;
 pub use lateness::{Lateness, MAX_LATE_MICROS};
 pub use line::fault_line;
 pub use meaning::{
-    Advice, CompressedAdvice, EndingAdvice, HEAD_LEN, compressed_advice, header_advice,
-    numeric_advice,
+    Advice, CompressedAdvice, EndingAdvice, HEAD_LEN, TEXT_ADVICE, UNWRITTEN_ADVICE,
+    compressed_advice, header_advice, numeric_advice,
 };
 pub use message::{DroppedNote, Note, SkippedNote, TapNote, reason_words};
 pub use misuse::Misuse;
@@ -51,3 +52,4 @@ pub use selection::selection_of;
 pub use shown::{Shown, Typed};
 pub use summary::{Hint, Summary, hint_of};
 pub use words::{BETWEEN_FILES, gathered, has_standard_among};
+pub use wrapped::{join_advice, push_advice, push_wrapped};

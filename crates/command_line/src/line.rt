@@ -15,6 +15,8 @@ use run_fault::{Output, WatchFault};
 use std::alloc::{AllocError, Global};
 use std::fmt;
 use std::fmt::{Display, Formatter};
+use transit_cut::TransitCutFault;
+use transit_ledger::TransitFault;
 use vl_config::ConfigFault;
 
 /// The text after the name of a fault.
@@ -180,6 +182,7 @@ pub(crate) fn file_name(file: FileOption) -> &'static str {
         FileOption::Baseline => "--baseline",
         FileOption::BaselineConfig => "--baseline-config",
         FileOption::Csv => "--csv",
+        FileOption::Transit => "--transit",
     }
 }
 
@@ -314,6 +317,25 @@ fn cut_part(fault: CutFault) -> Part {
     }
 }
 
+fn transit_cut_part(fault: TransitCutFault) -> Part {
+    match fault {
+        TransitCutFault::Ledger { line, fault } => in_line("1 Ledger", line, fault.word()),
+        TransitCutFault::Absent { line } => at_line("3 Absent", line),
+        TransitCutFault::Header { side, fault } => Part {
+            name: "4 Header",
+            about: About::Words(port_of(side), header_name(fault)),
+        },
+        TransitCutFault::Read {
+            source: CutSource::Ledger,
+        } => with_word("5 Read", "Ledger"),
+        TransitCutFault::Read {
+            source: CutSource::Recording(side),
+        } => with_word("5 Read", port_of(side)),
+        TransitCutFault::Write => plain("6 Write Output"),
+        TransitCutFault::Memory => plain("7 Memory"),
+    }
+}
+
 fn contradiction_name(found: Contradiction) -> &'static str {
     match found {
         Contradiction::Link => "link",
@@ -345,6 +367,18 @@ fn report_part(fault: ReportFault) -> Part {
     }
 }
 
+fn transit_ledger_part(fault: TransitFault) -> Part {
+    match fault {
+        TransitFault::Line { number, fault } if fault.is_contradiction() => {
+            in_line("2 Contradiction", number, fault.word())
+        }
+        TransitFault::Line { number, fault } => in_line("1 Ledger", number, fault.word()),
+        TransitFault::NotWhole { number, .. } => in_line("1 Ledger", number, "total"),
+        TransitFault::Read => plain("3 Read Ledger"),
+        TransitFault::Memory => plain("4 Memory"),
+    }
+}
+
 fn icd_part(fault: IcdFault) -> Part {
     match fault {
         IcdFault::Head { line, .. } => in_line("2 Icd", line, "head"),
@@ -363,7 +397,7 @@ fn selection_name(option: SelectionOption) -> &'static str {
     match option {
         SelectionOption::Link => "link",
         SelectionOption::Routed => "routed",
-        SelectionOption::Verdict => "verdict",
+        SelectionOption::Verdict | SelectionOption::Outcome => "verdict",
         SelectionOption::From => "from",
         SelectionOption::To => "to",
         SelectionOption::Span => "span",
@@ -387,6 +421,7 @@ fn part_of(fault: &Fault) -> (&'static str, Part) {
         Fault::Manifest => ("watch", plain("4 Write manifest")),
         Fault::Debug(fault) => ("debug", debug_part(fault)),
         Fault::Cut(fault) => ("cut", cut_part(fault)),
+        Fault::TransitCut(fault) => ("cut", transit_cut_part(fault)),
         Fault::Selection {
             option: SelectionOption::Routed,
             item,
@@ -399,6 +434,7 @@ fn part_of(fault: &Fault) -> (&'static str, Part) {
         Fault::Repeated(file) => ("repeated", plain(file_name(file))),
         Fault::Report(fault) => ("report", report_part(fault)),
         Fault::Baseline(fault) => ("report 6 Baseline", report_part(fault)),
+        Fault::TransitLedger(fault) => ("report 7 Transit", transit_ledger_part(fault)),
         Fault::Constant => ("links", plain("1 Constant")),
         Fault::Icd(fault) => ("links", icd_part(fault)),
         Fault::Draft(fault) => ("links 3 Draft", config_part(fault)),

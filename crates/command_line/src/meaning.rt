@@ -1,5 +1,6 @@
-//! What a fault line or a note means and what to do, in plain words, for a person at a terminal. The texts
-//! stand alone: an installed program has no documents beside it.
+//! The advice on a fault line or a note: what to do, in plain words, for a person at a terminal. Each text
+//! begins with a verb, has at most 100 columns, and stands alone: an installed program has no documents
+//! beside it.
 
 use crate::fault::{Contradiction, Fault, FileOption, ManifestFault, ReportFault, SelectionOption};
 use crate::files::GivenFile;
@@ -14,46 +15,49 @@ use cut_run::{CutFault, CutSource};
 use icd_links::IcdFault;
 use ledger_text::LineFault;
 use pcap_io::{BadReason, Ending, HeaderFault};
-use run_fault::{Output, WatchFault};
+use run_fault::WatchFault;
 use std::fmt;
 use std::fmt::{Display, Formatter};
+use transit_cut::TransitCutFault;
+use transit_ledger::{LineFault as TransitLineFault, TransitFault};
 use vl_config::ConfigFault;
 
 /// The advice on a text that isn't the numeric form of a filter, by what it looks like.
 pub fn numeric_advice(fault: NumericFault, written: Written) -> &'static str {
     match (fault, written) {
         (NumericFault::Count { .. }, _) => {
-            "the first number says how many instructions follow, and another number of them does"
+            "Correct the first number, which says how many instructions follow"
         }
-        (NumericFault::TooMany { .. }, _) => "a filter has at most 4096 instructions",
+        (NumericFault::TooMany { .. }, _) => FEW_INSTRUCTIONS,
         (NumericFault::Memory, _) => OUT_OF_MEMORY,
         (_, Written::Source) => {
-            "a filter's source, not its numeric form: afdxmon asm < in.asm prints that"
+            "Assemble this source into its numeric form: afdxmon asm < in.asm"
         }
         (_, Written::Expression) => {
-            "an expression, not its numeric form: tcpdump -y EN10MB -ddd 'ip and udp' prints that"
+            "Compile this expression to its numeric form, as by: tcpdump -y EN10MB -ddd 'ip and udp'"
         }
         (_, Written::Numeric) => {
-            "not the numeric form of a filter: tcpdump -y EN10MB -ddd 'ip and udp' prints one"
+            "Give the numeric form of a filter, as printed by: tcpdump -y EN10MB -ddd 'ip and udp'"
         }
     }
 }
 
 fn load_advice(fault: LoadFault) -> &'static str {
     match fault {
-        LoadFault::Length => "a filter has 1 to 4096 instructions",
+        LoadFault::Length => "Give a filter of 1 to 4096 instructions",
         LoadFault::UnknownCode { .. } => {
-            "not one of the 49 instructions of classic BPF, of Linux's extensions only 'len'"
+            "Use the 49 instructions of classic BPF; of Linux's extensions only 'len' is taken"
         }
-        LoadFault::ZeroDivisor { .. } => "a division by the constant 0",
-        LoadFault::Shift { .. } => "a shift by 32 bits or more",
-        LoadFault::Scratch { .. } => "scratch memory has the slots M[0] to M[15]",
+        LoadFault::ZeroDivisor { .. } => "Divide by another constant than 0",
+        LoadFault::Shift { .. } => "Shift by at most 31 bits",
+        LoadFault::Scratch { .. } =>
+            "Use the slots M[0] to M[15] of scratch memory: it has no others",
         LoadFault::Offset { .. } =>
-            "an offset is at most 2147483647: there are no negative offsets",
-        LoadFault::Jump { .. } => "a jump leads past the last instruction",
-        LoadFault::NoReturn => "the last instruction must be a return",
+            "Give an offset of at most 2147483647: there are no negative offsets",
+        LoadFault::Jump { .. } => "Shorten the jump: it leads past the last instruction",
+        LoadFault::NoReturn => "Make the last instruction a return",
         LoadFault::Unstored { .. } => {
-            "a scratch memory slot is read that some path to the instruction hasn't stored"
+            "Store to the slot of scratch memory on each path to the instruction that reads it"
         }
     }
 }
@@ -79,7 +83,7 @@ impl Display for CompressedAdvice<'_> {
             option,
             path,
         } = *self;
-        write!(f, "compressed by {packer}: ")?;
+        write!(f, "Unpack it ({packer}) as it is read: ")?;
         if option != FileOption::Recording {
             f.write_str(file_name(option))?;
             f.write_str(" ")?;
@@ -114,9 +118,9 @@ fn has_check_sequences(head: &[u8]) -> bool {
 
 fn link_type_advice(head: &[u8]) -> &'static str {
     if has_check_sequences(head) {
-        "its frames have their check sequence: editcap -F nsecpcap -L -C -4 in.pcap out.pcap takes it off"
+        "Take off the frames' check sequences: editcap -F nsecpcap -L -C -4 in.pcap out.pcap"
     } else {
-        "a pcap file of another link type than 1, Ethernet: record on an Ethernet interface"
+        "Record on an Ethernet interface: this pcap file has another link type than 1, Ethernet"
     }
 }
 
@@ -124,20 +128,20 @@ fn link_type_advice(head: &[u8]) -> &'static str {
 /// nothing is known of it.
 pub fn header_advice(fault: HeaderFault, head: &[u8]) -> &'static str {
     match fault {
-        HeaderFault::Short => "not a recording: it ends within its file header",
-        HeaderFault::Magic => "neither a pcap nor a pcapng file; if compressed: gunzip",
+        HeaderFault::Short => "Record again: the file ends within its header",
+        HeaderFault::Magic => "Give a pcap or pcapng file, unpacked if it was compressed (gunzip)",
         HeaderFault::Version => {
-            "a pcap file of another version than 2.4: editcap -F nsecpcap in.pcap out.pcap writes 2.4"
+            "Convert it to a pcap file of version 2.4: editcap -F nsecpcap in.pcap out.pcap"
         }
         HeaderFault::LinkType => link_type_advice(head),
         HeaderFault::SectionVersion => {
-            "a pcapng file of another major version than 1: record as pcapng 1.0 or pcap"
+            "Record as pcapng 1.0 or pcap: this pcapng file has another major version than 1"
         }
         HeaderFault::ByteOrderMagic
         | HeaderFault::SectionLength
         | HeaderFault::SectionLengthsDiffer
         | HeaderFault::SectionOption => {
-            "a pcapng file that is damaged in its section header: record again"
+            "Record again: the section header of this pcapng file is damaged"
         }
     }
 }
@@ -146,28 +150,29 @@ pub fn header_advice(fault: HeaderFault, head: &[u8]) -> &'static str {
 fn reason_advice(reason: BadReason) -> Option<&'static str> {
     Some(match reason {
         BadReason::StampBack { .. } => {
-            "the frames from there on are left out: reordercap in.pcap out.pcap sorts them"
+            "Sort its frames, since those from there on are left out: reordercap in.pcap out.pcap"
         }
         BadReason::TooMany => {
-            "the rest is left out: editcap -F nsecpcap -c 1000000000 in.pcap out.pcap splits it"
+            "Split it, since the rest is left out: editcap -F nsecpcap -c 1000000000 in.pcap out.pcap"
         }
         BadReason::SimplePacket => {
-            "simple packets have no time: record with enhanced packets, as dumpcap does"
+            "Record with enhanced packets, as dumpcap does: simple packets have no time"
         }
         BadReason::StampRange => {
-            "the recorder's clock was wrong: the frames from there on are left out"
+            "Set the recorder's clock, and record again: the frames from there on are left out"
         }
         BadReason::SeveralInterfaces => {
-            "choose one by its number or name after the path, as flight.pcapng:0"
+            "Choose one by its number or name after the path, as flight.pcapng:0"
         }
         BadReason::TooManyInterfaces => {
-            "the rest is left out: a section has at most 256 interfaces"
+            "Record at most 256 interfaces in a section: the rest is left out"
         }
-        BadReason::NoSuchInterface => "capinfos in.pcapng lists the interfaces of a file",
+        BadReason::NoSuchInterface => "Choose one of those that this lists: capinfos in.pcapng",
         BadReason::FileHeader => {
-            "the rest is left out: give the files one after the other, as --a FIRST SECOND"
+            "Give the files apart, as --a FIRST SECOND: the rest of this one is left out"
         }
-        BadReason::NextFile => "that file and those after it are left out: is it a recording?",
+        BadReason::NextFile =>
+            "Give a recording in its place: that file and those after it are left out",
         _ => return None,
     })
 }
@@ -181,7 +186,7 @@ impl Display for EndingAdvice {
         let (count, reason) = match self.0 {
             Ending::Clean(_) => return Ok(()),
             Ending::Cut(_) => {
-                return f.write_str("record again, or go on with the frames before it");
+                return f.write_str("Record again, or go on with the frames before it");
             }
             Ending::Bad(count, reason) => (count, reason),
         };
@@ -189,92 +194,99 @@ impl Display for EndingAdvice {
             return f.write_str(advice);
         }
         if count == 0 {
-            return f.write_str("the file is damaged at its first packet: record again");
+            return f.write_str("Record again: the file is damaged at its first packet");
         }
         write!(
             f,
-            "damaged there: editcap -F nsecpcap -r in.pcap out.pcap 1-{count} keeps what is before"
+            "Keep what is before the damage: editcap -F nsecpcap -r in.pcap out.pcap 1-{count}"
         )
     }
 }
 
 const OUT_OF_MEMORY: &str =
-    "the system has no memory left for it: end other programs, or raise its limit by ulimit -v";
+    "End other programs, or raise the limit by ulimit -v: the system has no memory left for it";
+
+/// The advice on a text or a stream of too many instructions.
+const FEW_INSTRUCTIONS: &str = "Give a filter of at most 4096 instructions";
+
+/// The advice on a text of standard input.
+pub const TEXT_ADVICE: &str = "Give a text of at most 16 MiB of UTF-8";
+
+const READABLE_RECORDING: &str = "Give a recording that can be read: a file or a pipe";
+
+const READABLE_LEDGER: &str = "Give a ledger that can be read: a file or a pipe";
+
+/// The advice on an output that can't be written.
+pub const UNWRITTEN_ADVICE: &str =
+    "Make room on its disk, raise ulimit -f, or keep the reader of its pipe running";
 
 fn watch_advice(fault: WatchFault) -> &'static str {
     match fault {
-        WatchFault::Workers => "--workers is 1 to 8",
+        WatchFault::Workers => "Give 1 to 8 as --workers",
         WatchFault::Header { fault, .. } => header_advice(fault, &[]),
-        WatchFault::Read { .. } => "the recording can't be read: is it a file or a pipe?",
-        WatchFault::Write {
-            output: Output::Capture,
-        } => "the capture can't be written: is the disk full, or the pipe closed?",
-        WatchFault::Write {
-            output: Output::Ledger,
-        } => "the ledger can't be written: is the disk full, or the pipe closed?",
+        WatchFault::Read { .. } => READABLE_RECORDING,
+        WatchFault::Write { .. } => UNWRITTEN_ADVICE,
         WatchFault::Spawn => {
-            "the system starts no more threads: raise its limits by ulimit -u and ulimit -v"
+            "Raise the limits by ulimit -u and ulimit -v: the system starts no more threads"
         }
         WatchFault::RingLost =>
-            "what a tap's thread read did not come as it was read: the program is wrong, report it",
+            "Report this: the program is wrong, since a recording did not come as it was read",
         WatchFault::Memory => OUT_OF_MEMORY,
-        WatchFault::Filters => "there are 1 to 8 filters",
+        WatchFault::Filters => "Give 1 to 8 filters",
     }
 }
 
-/// The need of a file, after the option that names it.
-fn needs(file: FileOption) -> &'static str {
+/// The file that an option is to name.
+fn needed(file: FileOption) -> &'static str {
     match file {
-        FileOption::Standard => {
-            "standard input or output fails, or the text is longer than 16 MiB or not UTF-8"
-        }
-        FileOption::Config => {
-            "needs a table of virtual links: a TOML document, at most 16 MiB of UTF-8"
-        }
-        FileOption::Filter => "needs a filter in the numeric form, at most 16 MiB of UTF-8",
-        FileOption::Icd => "needs comma-separated values, at most 16 MiB of UTF-8",
-        FileOption::Source => "needs a filter's source, at most 16 MiB of UTF-8",
+        FileOption::Standard => "a text of at most 16 MiB of UTF-8",
+        FileOption::Config => "a table of virtual links: a TOML document, at most 16 MiB of UTF-8",
+        FileOption::Filter => "a filter in the numeric form, at most 16 MiB of UTF-8",
+        FileOption::Icd => "a document of comma-separated values, at most 16 MiB of UTF-8",
+        FileOption::Source => "a filter's source, at most 16 MiB of UTF-8",
         FileOption::Recording
         | FileOption::Tap
         | FileOption::A
         | FileOption::B
         | FileOption::Before
-        | FileOption::After => {
-            "needs a recording that can be read: a pcap or pcapng file, or a pipe"
-        }
+        | FileOption::After => "a recording that can be read: a pcap or pcapng file, or a pipe",
         FileOption::BaselineConfig => {
-            "needs a table of virtual links that is sound: afdxmon check --config FILE tells what isn't"
+            "a sound table, of which this tells: afdxmon check --config FILE"
         }
         FileOption::Capture
         | FileOption::Ledger
         | FileOption::Output
         | FileOption::Manifest
-        | FileOption::Csv => { "needs a file that can be written, in a directory that is there" }
-        FileOption::Baseline => "needs a ledger that can be read: a file of watch, or a pipe",
+        | FileOption::Csv => "a file that can be written, in a directory that is there",
+        FileOption::Baseline => "a ledger that can be read: a file of watch, or a pipe",
+        FileOption::Transit => {
+            "a ledger of transits that can be read: a file of transit, or a pipe"
+        }
     }
 }
 
 fn config_advice(fault: ConfigFault) -> &'static str {
     match fault {
-        ConfigFault::Text => "not a TOML document",
-        ConfigFault::Missing { .. } => "a key is missing",
-        ConfigFault::Kind { .. } => "a value has another type than its key's",
-        ConfigFault::Range { .. } => "a value is out of its key's range",
-        ConfigFault::UnknownKey { .. } => "a key that the table doesn't have",
-        ConfigFault::TwiceId { .. } => "an earlier link has the identifier",
-        ConfigFault::TwiceName { .. } => "an earlier link has the name",
-        ConfigFault::TooMany => "there are at most 4096 links, and at most 7 filters in a table",
+        ConfigFault::Text => "Give a TOML document as the table",
+        ConfigFault::Missing { .. } => "Add the key that is missing",
+        ConfigFault::Kind { .. } => "Give the value the type that its key has",
+        ConfigFault::Range { .. } => "Give a value in the range of its key",
+        ConfigFault::UnknownKey { .. } => "Take out the key: a table has none of this name",
+        ConfigFault::TwiceId { .. } =>
+            "Give the link another identifier: an earlier link has this one",
+        ConfigFault::TwiceName { .. } => "Give the link another name: an earlier link has this one",
+        ConfigFault::TooMany => "Give a table at most 4096 links, and at most 7 filters",
         ConfigFault::Memory => OUT_OF_MEMORY,
     }
 }
 
 fn text_advice(fault: TextFault) -> &'static str {
     match fault {
-        TextFault::Character { .. } => "no token begins with this byte",
-        TextFault::Number { .. } =>
-            "not a number, or too large: 0x1f, 0b11, 017 and 31 are numbers",
-        TextFault::Form { .. } => "the statement doesn't go on like this",
-        TextFault::ReservedLabel { .. } => "a word of the language can't be a label",
+        TextFault::Character { .. } =>
+            "Take out this byte, or end the comment by */: no word of the language begins so",
+        TextFault::Number { .. } => "Write a number below 2^32, as 31, 0x1f, 0b11 or 017",
+        TextFault::Form { .. } => "Correct the statement: it doesn't go on like this",
+        TextFault::ReservedLabel { .. } => "Rename the label: a word of the language can't be one",
         TextFault::Memory => OUT_OF_MEMORY,
     }
 }
@@ -282,34 +294,36 @@ fn text_advice(fault: TextFault) -> &'static str {
 fn asm_advice(fault: AsmFault) -> &'static str {
     match fault {
         AsmFault::Text(fault) => text_advice(fault),
-        AsmFault::Empty => "there is no statement",
-        AsmFault::TooMany => "a filter has at most 4096 instructions",
-        AsmFault::TwiceLabel { .. } => "an earlier statement has the same label",
-        AsmFault::NoLabel { .. } => "no statement has the label that the jump names",
-        AsmFault::Backward { .. } => "a jump only goes forward, to a later statement",
+        AsmFault::Empty => "Write at least one statement",
+        AsmFault::TooMany => FEW_INSTRUCTIONS,
+        AsmFault::TwiceLabel { .. } => "Rename the label: an earlier statement has the same",
+        AsmFault::NoLabel { .. } =>
+            "Give a later statement the label that the jump names: none has it",
+        AsmFault::Backward { .. } => "Jump forward, to a later statement: no jump goes back",
         AsmFault::TooFar { .. } =>
-            "a conditional jump skips at most 255 statements: use ja on the way",
+            "Use ja on the way: a conditional jump skips at most 255 statements",
         AsmFault::Memory => OUT_OF_MEMORY,
     }
 }
 
 fn debug_advice(fault: DebugFault) -> &'static str {
     match fault {
-        DebugFault::NoFrame => "no frame is selected",
-        DebugFault::NoSuchFrame => "no frame has this number",
-        DebugFault::NoSuchInsn => "no instruction has this index",
+        DebugFault::NoFrame => "Select a frame first",
+        DebugFault::NoSuchFrame => "Give the number of a frame: none has this one",
+        DebugFault::NoSuchInsn => "Give the index of an instruction: none has this one",
         DebugFault::Memory => OUT_OF_MEMORY,
     }
 }
 
 fn line_advice(fault: LineFault) -> &'static str {
     match fault {
-        LineFault::Head => "no ledger of version 2: afdxmon watch writes one by --ledger",
-        LineFault::Frame(_) => "a line of no frame's form: was the ledger changed?",
-        LineFault::Order => "no line of a ledger stands there: was the ledger changed?",
-        LineFault::Newline => "nothing may stand after the line total: was the ledger changed?",
-        LineFault::Long => "no line of a ledger is so long",
-        LineFault::TooMany => "no ledger has so many lines",
+        LineFault::Head => "Give a ledger of version 2, as afdxmon watch --ledger writes it",
+        LineFault::Frame(_) => "Take the ledger as watch wrote it: the line has no frame's form",
+        LineFault::Order => "Take the ledger as watch wrote it: no such line stands there",
+        LineFault::Newline =>
+            "Take the ledger as watch wrote it: nothing stands after its line total",
+        LineFault::Long => "Take the ledger as watch wrote it: no line is so long",
+        LineFault::TooMany => "Take the ledger as watch wrote it: none has so many lines",
     }
 }
 
@@ -317,68 +331,88 @@ fn cut_advice(fault: CutFault) -> &'static str {
     match fault {
         CutFault::Ledger { fault, .. } => line_advice(fault),
         CutFault::Order { .. } => {
-            "the line's frame comes no later than the one before: was the ledger changed?"
+            "Take the ledger as watch wrote it: each line's frame comes after the one before"
         }
         CutFault::Absent { .. } => {
-            "the recording has no such frame: give those that the ledger was written of"
+            "Give the recordings that the ledger is of: these have no such frame"
         }
         CutFault::Header { fault, .. } => header_advice(fault, &[]),
         CutFault::Read {
             source: CutSource::Ledger,
-        } => "the ledger can't be read: is it a file or a pipe?",
+        } => READABLE_LEDGER,
         CutFault::Read {
             source: CutSource::Recording(_),
-        } => "the recording can't be read: is it a file or a pipe?",
-        CutFault::Write => "the output can't be written: is the disk full, or the pipe closed?",
+        } => READABLE_RECORDING,
+        CutFault::Write => UNWRITTEN_ADVICE,
         CutFault::Memory => OUT_OF_MEMORY,
+    }
+}
+
+fn transit_cut_advice(fault: TransitCutFault) -> &'static str {
+    match fault {
+        TransitCutFault::Ledger { fault, .. } => transit_line_advice(fault),
+        TransitCutFault::Absent { .. } => {
+            "Give the recordings that the ledger is of: one has no such frame"
+        }
+        TransitCutFault::Header { fault, .. } => header_advice(fault, &[]),
+        TransitCutFault::Read {
+            source: CutSource::Ledger,
+        } => READABLE_LEDGER,
+        TransitCutFault::Read {
+            source: CutSource::Recording(_),
+        } => READABLE_RECORDING,
+        TransitCutFault::Write => UNWRITTEN_ADVICE,
+        TransitCutFault::Memory => OUT_OF_MEMORY,
     }
 }
 
 fn selection_advice(option: SelectionOption) -> &'static str {
     match option {
         SelectionOption::Link => {
-            "--link needs identifiers 0 to 65535, as 301-305,42, or with --config names, as engine_*"
+            "Give --link identifiers 0 to 65535, as 301-305,42, or with --config names, as engine_*"
         }
         SelectionOption::Routed => {
-            "--routed needs identifiers 0 to 65535, as 301-305,42, or names of the table, as engine_*"
+            "Give --routed identifiers 0 to 65535, as 301-305,42, or names of the table, as engine_*"
         }
         SelectionOption::Verdict => {
-            "--verdict needs words of a ledger's fields 6 to 9, 'discarded', 'faults' or 'delivered'"
+            "Give --verdict words of a ledger's fields 6 to 9, 'discarded', 'faults' or 'delivered'"
+        }
+        SelectionOption::Outcome => {
+            "Give --verdict outcomes of a ledger of transits, as dropped or lax, or 'faults'"
         }
         SelectionOption::From => {
-            "a time is 2027-01-15T08:00:12.119534506Z, 08:00:12.1195, 08:00, +12.1195, +12s, or nanoseconds \
-             since 1970"
+            "Give a time as 2027-01-15T08:00:12.1195Z, 08:00:12.1195, 08:00, +12s or nanoseconds since 1970"
         }
         SelectionOption::To => {
-            "a time is as 08:00:12.1195 or 08:00, with a date before it as 2027-01-15T08:00:12Z, +12.1195, \
-             +12s, or nanoseconds since 1970, and no earlier than --from"
+            "Give a time as 2027-01-15T08:00:12.1195Z, 08:00:12.1195, 08:00, +12s or nanoseconds since 1970\n\
+             Let it be no earlier than --from"
         }
-        SelectionOption::Span => "--span needs a length of time, as 2s, 0.5s, 250ms or 80us",
-        SelectionOption::Filters => "--filters needs a mask: 01 to ff",
-        SelectionOption::Around => "--around reads the ledger twice: name a file of it, no pipe",
+        SelectionOption::Span => "Give --span a length of time, as 2s, 0.5s, 250ms or 80us",
+        SelectionOption::Filters => "Give --filters a mask in hexadecimal, 01 to ff",
+        SelectionOption::Around => "Name a file as the ledger, no pipe: --around reads it twice",
     }
 }
 
 fn contradiction_advice(found: Contradiction) -> &'static str {
     match found {
-        Contradiction::Link => "a link that the table doesn't have: is it the table of the run?",
+        Contradiction::Link =>
+            "Take the table of the run: this one doesn't say the same of the link",
         Contradiction::Copy =>
-            "a copy without its delivery before it: was the ledger or the table changed?",
+            "Take the run's ledger and table as they were: the copy has no delivery before it",
         Contradiction::Counts =>
-            "counts that its frames' lines don't give: was the ledger or the table changed?",
+            "Take the run's ledger and table as they were: the frames' lines give other counts",
         Contradiction::Verdict =>
-            "a verdict that the table's BAG, jitter and Smax can't give: is it the table of the run?",
+            "Take the table of the run: the verdict can't come of this one's BAG, jitter and Smax",
     }
 }
 
 fn manifest_advice(fault: ManifestFault) -> &'static str {
     match fault {
-        ManifestFault::Form { .. } => "no manifest: afdxmon watch writes one by --manifest",
-        ManifestFault::Version => "a manifest of another version than 1",
-        ManifestFault::Table =>
-            "another SHA-256 than the manifest has: is it the table of the run?",
+        ManifestFault::Form { .. } => "Give a manifest, as afdxmon watch --manifest writes it",
+        ManifestFault::Version => "Give a manifest of version 1",
+        ManifestFault::Table => "Take the table of the run: the manifest has another SHA-256",
         ManifestFault::Ledger =>
-            "another length or SHA-256 than the manifest has: is it the ledger of the run?",
+            "Take the ledger of the run: the manifest has another length or SHA-256",
     }
 }
 
@@ -386,18 +420,46 @@ fn report_advice(fault: ReportFault) -> &'static str {
     match fault {
         ReportFault::Ledger { fault, .. } => line_advice(fault),
         ReportFault::Contradiction { found, .. } => contradiction_advice(found),
-        ReportFault::Read => "the ledger can't be read: is it a file or a pipe?",
+        ReportFault::Read => READABLE_LEDGER,
         ReportFault::Memory => OUT_OF_MEMORY,
         ReportFault::Manifest(fault) => manifest_advice(fault),
     }
 }
 
-/// Why a draft isn't a table.
+/// The advice on a line of a ledger of transits.
+fn transit_line_advice(fault: TransitLineFault) -> &'static str {
+    match fault {
+        TransitLineFault::Head =>
+            "Give a ledger of transits, as afdxmon transit --ledger writes it",
+        TransitLineFault::Run | TransitLineFault::Frame(_) | TransitLineFault::Form =>
+            "Take the ledger as transit wrote it: the line has another form",
+        TransitLineFault::Order => "Take the ledger as transit wrote it: no such line stands there",
+        TransitLineFault::Newline =>
+            "Take the ledger as transit wrote it: nothing stands after its line total",
+        TransitLineFault::Long => "Take the ledger as transit wrote it: no line is so long",
+        TransitLineFault::Link =>
+            "Take the table of the run: this one doesn't say the same of the link",
+        TransitLineFault::Counts =>
+            "Take the run's ledger and table as they were: the frames' lines give other counts",
+    }
+}
+
+fn transit_advice(fault: TransitFault) -> &'static str {
+    match fault {
+        TransitFault::Line { fault, .. } => transit_line_advice(fault),
+        TransitFault::NotWhole { .. } => "Run transit to its end: the ledger has no line total",
+        TransitFault::Read => READABLE_LEDGER,
+        TransitFault::Memory => OUT_OF_MEMORY,
+    }
+}
+
+/// The advice on a draft that isn't a table.
 fn draft_advice(fault: ConfigFault) -> &'static str {
     match fault {
-        ConfigFault::TooMany => "the ICD and the recordings have more than 4096 links together",
+        ConfigFault::TooMany =>
+            "Take out links: the ICD and the recordings have more than 4096 together",
         ConfigFault::TwiceName { .. } => {
-            "the ICD gives a link the name vl_ID of another, which has none in it: name that too"
+            "Name the link in the ICD: without a name it is vl_ID, as another link is named there"
         }
         _ => config_advice(fault),
     }
@@ -407,7 +469,7 @@ fn draft_advice(fault: ConfigFault) -> &'static str {
 fn icd_advice(fault: IcdFault) -> &'static str {
     match fault {
         IcdFault::Memory => OUT_OF_MEMORY,
-        _ => "the document has faults, and there is no memory to list them",
+        _ => "Correct the document: it has faults, and there is no memory to list them",
     }
 }
 
@@ -415,35 +477,36 @@ fn icd_advice(fault: IcdFault) -> &'static str {
 fn fixed_advice(fault: &Fault) -> &'static str {
     match *fault {
         Fault::File(file) | Fault::Shared { output: file, .. } | Fault::Taken { file, .. } => {
-            needs(file)
+            needed(file)
         }
         Fault::Config(fault) => config_advice(fault),
         Fault::Asm(fault) => asm_advice(fault),
         Fault::Numeric { fault, .. } => numeric_advice(fault, Written::Numeric),
         Fault::Load { fault, .. } => load_advice(fault),
         Fault::Watch(fault) | Fault::Transit(fault) => watch_advice(fault),
-        Fault::Manifest => "the manifest can't be written: is the disk full, or the pipe closed?",
+        Fault::Manifest => UNWRITTEN_ADVICE,
         Fault::Debug(fault) => debug_advice(fault),
         Fault::Cut(fault) => cut_advice(fault),
+        Fault::TransitCut(fault) => transit_cut_advice(fault),
         Fault::Selection { option, .. } => selection_advice(option),
         Fault::Interfaces(_) => {
-            "choose one of these by name or number, as flight.pcapng:eth0; for a pcap file leave it out"
+            "Choose one of these by name or number, as flight.pcapng:eth0; of a pcap file none"
         }
-        Fault::Order(_) => "give the files of a recording in the order of their first timestamps",
-        Fault::Repeated(_) => "give each file of a recording once",
+        Fault::Order(_) => "Give the files of a recording in the order of their first timestamps",
+        Fault::Repeated(_) => "Give each file of a recording once",
         Fault::Report(fault) | Fault::Baseline(fault) => report_advice(fault),
+        Fault::TransitLedger(fault) => transit_advice(fault),
         Fault::Icd(fault) => icd_advice(fault),
         Fault::Draft(fault) => draft_advice(fault),
         Fault::Constant => {
-            "--constant is a number of 32 bits with bits 24 and 25 set, as 0x03000000 or 50331648"
+            "Give --constant a number of 32 bits with bits 24 and 25 set, as 0x03000000 or 50331648"
         }
-        Fault::Unsound => "a run with these inputs would not be sound: the answer says why",
-        Fault::Questioned =>
-            "a question is open, so what was found may be wrong: the answer asks it",
+        Fault::Unsound => "Read why in the answer: a run with these inputs would not be sound",
+        Fault::Questioned => "Read the answer's questions: what was found may be wrong",
     }
 }
 
-/// The meaning of a fault line and the way to mend it, in plain words, for a person at a terminal.
+/// The advice on a fault line, for a person at a terminal.
 #[derive(Clone, Copy)]
 pub struct Advice<'a>(pub &'a Fault);
 
@@ -454,25 +517,28 @@ impl Display for Advice<'_> {
             Fault::Shared {
                 other: FileOption::Recording,
                 ..
-            } => f.write_str("it is the recording too: name another file to write"),
+            } => f.write_str("Name another file to write: this is the recording too"),
             Fault::Shared { other, .. } => {
                 let option = file_name(other);
                 write!(
                     f,
-                    "it is the file of {option} too: name another file to write"
+                    "Name another file to write: this is that of {option} too"
                 )
             }
             Fault::Taken {
                 by: FileOption::Standard,
                 ..
-            } => f.write_str("the commands are read from standard input: name a file"),
+            } => f.write_str("Name a file: the commands are read from standard input"),
             Fault::Taken { by, .. } => {
                 let option = file_name(by);
-                write!(f, "'-' stands for {option} already: name a file")
+                write!(f, "Name a file: '-' stands for {option} already")
             }
-            Fault::File(file) if file != FileOption::Standard => {
+            Fault::File(FileOption::Standard) => {
+                write!(f, "Give {fixed}, and an output that can be written")
+            }
+            Fault::File(file) => {
                 let option = file_name(file);
-                write!(f, "{option} {fixed}")
+                write!(f, "Let {option} name {fixed}")
             }
             _ => f.write_str(fixed),
         }

@@ -39,6 +39,8 @@ pub enum Misuse {
     NoBaseline,
     /// A run over two recordings, whose frames it puts in order, is to take timestamps in any order.
     Unordered,
+    /// A cut by a ledger of transits is given what a ledger of `watch` has.
+    OfWatch,
     /// A span of time has both a last moment and a length.
     TwoEnds,
     /// An argument isn't there that clap requires or has a default for. This is not met.
@@ -49,7 +51,7 @@ impl Misuse {
     /// The kind of clap's error that says so.
     pub fn kind(self) -> ErrorKind {
         match self {
-            Misuse::TwoFilters | Misuse::NoPackets | Misuse::TwoEnds => {
+            Misuse::TwoFilters | Misuse::NoPackets | Misuse::TwoEnds | Misuse::OfWatch => {
                 ErrorKind::ArgumentConflict
             }
             Misuse::NoNetwork
@@ -71,36 +73,61 @@ impl Misuse {
         }
     }
 
-    /// The text of clap's error, after `error: `.
+    /// The text of clap's error, after `error: `: what is wrong, and in a second line what to do.
     pub fn message(self) -> &'static str {
         match self {
-            Misuse::NoFilter => "no filter is given",
-            Misuse::TwoFilters => "more than one filter is given",
-            Misuse::NoRecording => "no recording is given: --a, --b or both name one",
-            Misuse::NoLinks => "no recording is given: --a, --b or both name one, or --icd an ICD",
-            Misuse::NoColumn =>
-                "--column is KEY=HEAD, each KEY once: id, name, bag_ms, jitter_us, smax, integrity, \
-                 redundancy or skew_us",
-            Misuse::NoDocument => "--column needs --icd, the document whose column it names",
-            Misuse::Unfiltered => "--capture needs --filter, which says what frames it is to have",
-            Misuse::NoNetwork => "--network is A or B",
-            Misuse::NoKind =>
-                "--expected is arp, ipv4, ipv6, lldp, ptp, 802.1q, 802.3 or EtherTypes as 0x88f7, with \
-                 commas",
-            Misuse::NoLevel => "--fail-on is trouble or notice",
-            Misuse::NoPolicing => "--police is bytes or frames",
-            Misuse::Uncaptured => "--pcapng needs --capture: it says how the capture is written",
-            Misuse::NoManifest => "--digest needs --manifest, which has the digests",
-            Misuse::NoBaseline => "--baseline-config needs --baseline, whose table it is",
-            Misuse::NoPackets =>
-                "--pcapng says how packets are written, and --ledger-only leaves them out",
-            Misuse::NoLateness =>
-                "--late-us is a number of microseconds, 0 to 1000000, and of capture and debug also any",
-            Misuse::Unordered =>
-                "--late-us any is for capture and debug: watch and transit put the frames of both \
-                 recordings in order",
-            Misuse::TwoEnds => "--to and --span both end the span of time: give one of them",
-            Misuse::Incomplete => "a required argument is missing",
+            Misuse::NoFilter => "no filter is given\n  Name one by --filter or --source",
+            Misuse::TwoFilters => "more than one filter is given\n  Give one of them",
+            Misuse::NoRecording => "no recording is given\n  Name one by --a, --b or both",
+            Misuse::NoLinks =>
+                "no recording is given\n  Name one by --a, --b or both, or an ICD by --icd",
+            Misuse::NoColumn => {
+                "--column isn't KEY=HEAD, or has a KEY twice\n  Give as KEY id, name, bag_ms, jitter_us, \
+                 smax, integrity, redundancy or skew_us"
+            }
+            Misuse::NoDocument =>
+                "--column is of a document, and none is given\n  Name it by --icd",
+            Misuse::Unfiltered =>
+                "--capture has no filter, which says of what frames it is\n  Name one by --filter",
+            Misuse::NoNetwork => "--network is neither A nor B\n  Give A or B",
+            Misuse::NoKind => {
+                "--expected has a kind that isn't known\n  Give arp, ipv4, ipv6, lldp, ptp, 802.1q, 802.3 \
+                 or EtherTypes as 0x88f7, with commas"
+            }
+            Misuse::NoLevel => "--fail-on is neither trouble nor notice\n  Give one of them",
+            Misuse::NoPolicing => "--police is neither bytes nor frames\n  Give one of them",
+            Misuse::Uncaptured =>
+                "--pcapng says how a capture is written, and none is\n  Name one by --capture",
+            Misuse::NoManifest =>
+                "--digest has no manifest to write digests to\n  Name one by --manifest",
+            _ => self.further_message(),
+        }
+    }
+    /// The text of those about options that go together.
+    fn further_message(self) -> &'static str {
+        match self {
+            Misuse::NoBaseline => {
+                "--baseline-config is the table of a baseline, and none is given\n  Name its ledger by \
+                 --baseline"
+            }
+            Misuse::NoPackets => {
+                "--pcapng says how packets are written, and --ledger-only leaves them out\n  Give one of \
+                 them"
+            }
+            Misuse::NoLateness => {
+                "--late-us is no number of microseconds, 0 to 1000000\n  Give one, or for capture and debug \
+                 any"
+            }
+            Misuse::Unordered => {
+                "--late-us any is for capture and debug: others put frames of two recordings in order\n  \
+                 Give a number of microseconds, 0 to 1000000"
+            }
+            Misuse::OfWatch => {
+                "--a, --b, --network, --filters, --around and --ledger-only are for ledgers of watch\n  \
+                 Leave them out, or give a ledger of watch"
+            }
+            Misuse::TwoEnds => "--to and --span both end the span of time\n  Give one of them",
+            _ => "a required argument is missing\n  Give it",
         }
     }
 }

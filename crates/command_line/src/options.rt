@@ -144,7 +144,7 @@ const CAPTURE: [Argument; 8] = [
 
 const ASM: [Argument; 1] = [VERBOSE];
 
-const WATCH: [Argument; 14] = [
+const WATCH: [Argument; 15] = [
     CONFIG,
     FILTER,
     A,
@@ -185,6 +185,11 @@ const WATCH: [Argument; 14] = [
         Form::Flag,
         "End with status 3 where a recording ends early, not with 0",
     ),
+    Argument(
+        "resume-after-cut",
+        Form::Flag,
+        "Go on with the next file of a recording behind one that is cut or damaged",
+    ),
     COMMENTED,
     VERBOSE,
 ];
@@ -201,7 +206,7 @@ const DEBUG: [Argument; 5] = [
     VERBOSE,
 ];
 
-const CUT: [Argument; 16] = [
+const CUT: [Argument; 18] = [
     Argument(
         "ledger",
         Form::Needed("FILE"),
@@ -209,6 +214,16 @@ const CUT: [Argument; 16] = [
     ),
     A,
     B,
+    Argument(
+        "before",
+        FILE,
+        "By a ledger of transits: the recording at the port in",
+    ),
+    Argument(
+        "after",
+        FILE,
+        "By a ledger of transits: the recording at the port out",
+    ),
     Argument(
         "config",
         FILE,
@@ -277,7 +292,7 @@ const LINKS: [Argument; 6] = [
     VERBOSE,
 ];
 
-const REPORT: [Argument; 15] = [
+const REPORT: [Argument; 16] = [
     CONFIG,
     Argument(
         "ledger",
@@ -298,6 +313,11 @@ const REPORT: [Argument; 15] = [
         "baseline-config",
         FILE,
         "The table of that flight, where it was another one",
+    ),
+    Argument(
+        "transit",
+        FILE,
+        "A ledger of transits to tell of too, as `afdxmon transit` writes it",
     ),
     Argument(
         "from",

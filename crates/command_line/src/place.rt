@@ -5,6 +5,8 @@ use afdx_frame::Network;
 use cut_run::{CutFault, CutSource};
 use icd_links::IcdFault;
 use run_fault::{Output, WatchFault};
+use transit_cut::TransitCutFault;
+use transit_ledger::TransitFault;
 
 fn input_of(network: Network) -> FileOption {
     match network {
@@ -53,6 +55,23 @@ fn cut_file(fault: CutFault) -> Option<FileOption> {
         CutFault::Read { source } => Some(source_file(source)),
         CutFault::Write => Some(FileOption::Output),
         CutFault::Memory => None,
+    }
+}
+
+/// The file of the fault of a cut by a ledger of transits.
+fn transit_cut_file(fault: TransitCutFault) -> Option<FileOption> {
+    match fault {
+        TransitCutFault::Ledger { .. }
+        | TransitCutFault::Absent { .. }
+        | TransitCutFault::Read {
+            source: CutSource::Ledger,
+        } => Some(FileOption::Ledger),
+        TransitCutFault::Header { side, .. }
+        | TransitCutFault::Read {
+            source: CutSource::Recording(side),
+        } => Some(port_of(side)),
+        TransitCutFault::Write => Some(FileOption::Output),
+        TransitCutFault::Memory => None,
     }
 }
 
@@ -123,6 +142,7 @@ pub fn file_of(fault: &Fault) -> Option<FileOption> {
             | WatchFault::Filters,
         )
         | Fault::Transit(_)
+        | Fault::TransitLedger(TransitFault::Memory)
         | Fault::Debug(_)
         | Fault::Selection { .. }
         | Fault::Constant
@@ -130,7 +150,9 @@ pub fn file_of(fault: &Fault) -> Option<FileOption> {
         | Fault::Unsound
         | Fault::Questioned => None,
         Fault::Cut(fault) => cut_file(fault),
+        Fault::TransitCut(fault) => transit_cut_file(fault),
         Fault::Report(fault) => report_file(fault),
         Fault::Baseline(fault) => baseline_file(fault),
+        Fault::TransitLedger(_) => Some(FileOption::Transit),
     }
 }

@@ -1,4 +1,4 @@
-//! What selects lines of a ledger, from the texts of the options.
+//! The selection of a ledger's lines, from the texts of the options.
 ghost use Rattle.std.specs.Prelude.{◌≡◌, IfErr, IfOk, Ok, false, option_map};
 ghost use Rattle.std.specs.Option.{option_copied};
 ghost use Rattle.command_line.specs.Numbers.{text_of};

@@ -1,4 +1,4 @@
-//! What a run of `watch` came to, told to a person at a terminal.
+//! The summary of a run of `watch`, told to a person at a terminal.
 
 use integrity::Integrity;
 use pcap_io::Ending;

@@ -42,7 +42,8 @@ Example: the state before the filter's first three instructions on frame 0
 
 /// How `cut` is called.
 pub const CUT_USAGE: &str = "\
-afdxmon cut [OPTIONS] --ledger <FILE> <--a <FILE>...|--b <FILE>...|--ledger-only>";
+afdxmon cut [OPTIONS] --ledger <FILE> <--a <FILE>...|--b <FILE>...|--ledger-only>
+       afdxmon cut [OPTIONS] --ledger <FILE> <--before <FILE>...|--after <FILE>...>";
 
 /// The text after the options in the help of `cut`.
 pub const CUT_EXAMPLE: &str = "\
@@ -52,6 +53,9 @@ a file. Lines of a network whose recording isn't given are passed over. A TIME i
 '2027-01-15T08:00:12.119534506Z', the '08:00:12.1195' or '08:00' of the recording's day in UTC,
 '+12.1195' or '+12s' after the ledger's first frame, or nanoseconds since 1970. A --to earlier in
 the day than --from is one of the next day. '-' is standard input, or standard output.
+
+By a ledger of transits, as `afdxmon transit --ledger` writes it, --verdict takes words of its
+field 8 or 'faults', and each frame that went in has the one that came out of it beside it.
 
 Example: keep the frames that policing discarded
   afdxmon cut --ledger flight.ledger --a a.pcap --b b.pcap --verdict excess -o excess.pcap";

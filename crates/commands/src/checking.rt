@@ -1,4 +1,4 @@
-//! Whether a run of `watch` would be sound, told on standard output.
+//! The answer on standard output whether a run of `watch` would be sound.
 use crate::inputs::{MAX_LATE, shown_path, text_of};
 use afdx_frame::Network;
 use bpf_loader::Program;

@@ -1,4 +1,4 @@
-//! What a person is told of a ledger's line that contradicts the table: which link, and how.
+//! The words for a person on a ledger's line that contradicts the table: which link, and how.
 use command_line::Shown;
 use ledger_report::{Difference, Disputed, Unheld};
 use std::alloc::Global;
@@ -43,34 +43,31 @@ impl Display for DisputedLink<'_> {
             write!(f, " {name}")?;
         }
         match &self.disputed.how {
-            Difference::Lacks => write!(f, " isn't in the table {table}")?,
-            Difference::Has => {
-                write!(f, " is unconfigured there, and the table {table} has it")?;
-            }
+            Difference::Lacks => write!(f, " isn't in the table {table}"),
+            Difference::Has => write!(f, " is unconfigured there, and the table {table} has it"),
             Difference::Checks => {
                 write!(
                     f,
                     " has other integrity checking or redundancy management in the table {table}"
-                )?;
+                )
             }
             Difference::Skew { apart, most } => {
                 let (apart, most) = (Amount(*apart), Amount(*most));
                 write!(
                     f,
                     " has a copy {apart} after its delivery, and SkewMax {most} in the table {table}"
-                )?;
+                )
             }
             Difference::Named(name) => {
                 let name = Shown(name);
-                write!(f, " of the table {table} is {name} there")?;
+                write!(f, " of the table {table} is {name} there")
             }
-            Difference::Uncounted => write!(f, " of the table {table} has no counts there")?,
+            Difference::Uncounted => write!(f, " of the table {table} has no counts there"),
             Difference::Unheld(why) => {
                 let words = unheld_words(*why);
-                write!(f, " has a frame {words} the table {table}")?;
+                write!(f, " has a frame {words} the table {table}")
             }
         }
-        f.write_str(": is it the table of the run?")
     }
 }
 

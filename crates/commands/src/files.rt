@@ -209,9 +209,9 @@ impl Stream {
     /// The words for a person on one that is closed.
     fn closed_words(self) -> &'static str {
         match self {
-            Stream::Input => "standard input is closed",
-            Stream::Output => "standard output is closed",
-            Stream::Error => "standard error is closed",
+            Stream::Input => "Name a file: standard input is closed",
+            Stream::Output => "Name a file: standard output is closed",
+            Stream::Error => "Name a file: standard error is closed",
         }
     }
 
@@ -281,11 +281,11 @@ fn taken_already(rt: &HostRuntime, file: GivenFile<'_>) -> Outcome {
         _ => "standard input",
     };
     let why = if file.is_written {
-        "it is written already, and takes one output"
+        "this one is written already, and takes one output"
     } else {
-        "it is read already, and can be read once"
+        "this one is read already, and can be read once"
     };
-    let told = format!(in rt.alloc(); "{name}: {why}: name another file").ok();
+    let told = format!(in rt.alloc(); "{name}: Name another file: {why}").ok();
     Outcome {
         detail: told.map(|told| Detail::Stream(told)),
         ..Outcome::from(Fault::File(file.option))

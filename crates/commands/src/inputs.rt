@@ -1,4 +1,4 @@
-//! What a command is given as text: filters, a table, a window for late timestamps.
+//! The texts that a command is given: filters, a table, a window for late timestamps.
 use bpf_loader::Program;
 use command_line::{FileOption, FilterArgument, Lateness, MAX_LATE_MICROS, is_standard};
 use run_inputs::{filter_of, filter_of_source, read_config};

@@ -18,6 +18,7 @@ mod inputs;
 mod outputs;
 mod reporting;
 mod standard_input;
+mod transit_cutting;
 mod transiting;
 
 pub use assembling::asm;
@@ -33,4 +34,5 @@ pub use outputs::{
     format_of, shared, summarise, with_manifest, worst_links,
 };
 pub use reporting::report;
+pub use transit_cutting::cut_transits;
 pub use transiting::transit;

@@ -9,7 +9,7 @@ use command_line::{
 };
 use findings::Level;
 use ledger_report::{
-    Difference, Disputed, NoReport, Part, Report, WrongLine, read_part, read_report,
+    BINS, Difference, Disputed, NoReport, Part, Report, WrongLine, read_part, read_report,
 };
 use ledger_text::LineFault;
 use pcap_io::ReadSource;
@@ -20,6 +20,8 @@ use std::alloc::AllocError;
 use std::io;
 use std::io::{Read, Write};
 use tap_inputs::{Cause, Detail, Input, Noting, Outcome, Taps, open};
+use transit_ledger::TransitFault;
+use transit_report::{TimeColumns, TransitReport, read_transits};
 use vl_config::Config;
 
 /// There is no memory for a report.
@@ -270,6 +272,73 @@ fn baseline_table(
     }
 }
 
+/// The ledger of transits, if one is given.
+fn open_transits(
+    rt: &HostRuntime,
+    given: &ReportArguments<'_>,
+) -> Result<Option<OpenLedger>, Outcome> {
+    match given.transit {
+        Some(path) => Ok(Some(Noting::new(open(rt, path, FileOption::Transit)?))),
+        None => Ok(None),
+    }
+}
+
+/// The fault of a ledger of transits of which there is no report.
+fn transit_fault(fault: TransitFault) -> Fault {
+    match fault {
+        TransitFault::Memory => NO_REPORT,
+        fault => Fault::TransitLedger(fault),
+    }
+}
+
+/// The report of the ledger of transits by the columns of the report's timeline, if there is one.
+fn transits_of(
+    rt: &HostRuntime,
+    ledger: Option<OpenLedger>,
+    config: &Config,
+    report: &Report,
+) -> Result<Option<TransitReport>, Outcome> {
+    let Some(mut ledger) = ledger else {
+        return Ok(None);
+    };
+    let columns = TimeColumns {
+        start: report.start,
+        width: report.width,
+        count: BINS,
+    };
+    match read_transits(rt.alloc(), config, ReadSource::new(&mut ledger), columns) {
+        Ok(transits) => Ok(Some(transits)),
+        Err(fault) => Err(Outcome {
+            cause: ledger.refused().map(|error| Cause::System(error)),
+            ..Outcome::from(transit_fault(fault))
+        }),
+    }
+}
+
+/// The section on a ledger of transits in the form of what is written, if there is one.
+fn section_for(
+    rt: &HostRuntime,
+    given: &ReportArguments<'_>,
+    shown: &Shown<'_>,
+    transits: Option<&TransitReport>,
+) -> Result<Option<String>, Fault> {
+    let (Some(path), Some(transits)) = (given.transit, transits) else {
+        return Ok(None);
+    };
+    let alloc = rt.alloc();
+    let text = if given.json {
+        transit_page::json_of(alloc, shown.config, transits)
+    } else if is_at_terminal(rt, given.output) {
+        transit_page::lines_of(alloc, transits)
+    } else {
+        transit_page::section_of(alloc, shown, transits, shown_path(path))
+    };
+    match text {
+        Ok(text) => Ok(Some(text)),
+        Err(AllocError) => Err(NO_REPORT),
+    }
+}
+
 /// The page, the numbers, or at a terminal the first part as text.
 fn text_for(
     rt: &HostRuntime,
@@ -292,13 +361,17 @@ fn write_report(
     rt: &HostRuntime,
     given: &ReportArguments<'_>,
     shown: &Shown<'_>,
+    transits: Option<&TransitReport>,
 ) -> Result<(), Outcome> {
-    let text = text_for(rt, given, shown)?;
+    let section = section_for(rt, given, shown, transits)?;
+    let transit = section.as_ref().map(|text| text.as_str());
+    let shown = Shown { transit, ..*shown };
+    let text = text_for(rt, given, &shown)?;
     write_out(rt, given.output, &text, FileOption::Output)?;
     let Some(path) = given.csv else {
         return Ok(());
     };
-    match csv_of(rt.alloc(), shown) {
+    match csv_of(rt.alloc(), &shown) {
         Ok(links) => write_out(rt, path, &links, FileOption::Csv),
         Err(AllocError) => Err(Outcome::from(NO_REPORT)),
     }
@@ -357,6 +430,35 @@ fn exit_of(given: &ReportArguments<'_>, report: &Report) -> Exit {
     }
 }
 
+/// The report with what it is shown with, without its section on a ledger of transits.
+fn shown_of<'a>(
+    given: &ReportArguments<'a>,
+    (report, config): (&'a Report, &'a Config),
+    manifest: Option<&'a Manifest>,
+    (baseline, baseline_config): (Option<&'a Report>, Option<&'a Config>),
+    partial: bool,
+) -> Shown<'a> {
+    Shown {
+        report,
+        config,
+        sizes: has_sizes(config),
+        manifest,
+        baseline,
+        baseline_config,
+        baseline_ledger: given.baseline,
+        ledger: given.ledger,
+        table: shown_path(given.config),
+        title: given.title.unwrap_or(TITLE),
+        from: given.from,
+        to: given.to,
+        link: given.link,
+        network: given.network,
+        partial,
+        fail_on: given.fail_on.map(|fail_on| level_of(fail_on)),
+        transit: None,
+    }
+}
+
 /// Writes a page on what a ledger says, or its numbers. The output is touched only once there is something to
 /// write.
 pub fn report(
@@ -378,6 +480,7 @@ pub fn report(
     let mut ledger = Digesting::new(ledger, hashed);
     let baseline = open_baseline(rt, given)?;
     let earlier = baseline_table(rt, given)?;
+    let transits = open_transits(rt, given)?;
     refuse_shared(rt, Invocation::Report(*given), taps)?;
     let beginning = Beginning::read(&mut ledger.inner);
     let report = read_ledger(rt, &mut ledger, table, part, beginning)?;
@@ -390,34 +493,15 @@ pub fn report(
         }
         None => baseline_of(rt, baseline, table)?,
     };
-    let before = baseline.as_ref();
-    let before_config = earlier.as_ref();
-    let before_ledger = given.baseline;
-    let table_name = shown_path(given.config);
-    let title = given.title.unwrap_or(TITLE);
-    let from = given.from;
-    let to = given.to;
-    let link = given.link;
-    let network = given.network;
-    let shown = Shown {
-        report: &report,
-        config: &config,
-        sizes: has_sizes(&config),
+    let transits = transits_of(rt, transits, &config, &report)?;
+    let shown = shown_of(
+        given,
+        (&report, &config),
         manifest,
-        baseline: before,
-        baseline_config: before_config,
-        baseline_ledger: before_ledger,
-        ledger: given.ledger,
-        table: table_name,
-        title,
-        from,
-        to,
-        link,
-        network,
-        partial: beginning.is_part(),
-        fail_on: given.fail_on.map(|fail_on| level_of(fail_on)),
-    };
-    write_report(rt, given, &shown)?;
+        (baseline.as_ref(), earlier.as_ref()),
+        beginning.is_part(),
+    );
+    write_report(rt, given, &shown, transits.as_ref())?;
     Ok(Outcome::from(exit_of(given, &report)))
 }
 

@@ -45,7 +45,7 @@ impl StandardInput {
     pub fn told(&self, rt: &HostRuntime) -> Option<Detail> {
         let cause = self.cause()?;
         let told = format!(in rt.alloc(); "standard input: {cause}").ok()?;
-        Some(Detail::Stream(told))
+        Some(Detail::Text(told))
     }
 
     fn keep(&mut self, bytes: &[u8]) {
@@ -60,7 +60,7 @@ impl Read for StandardInput {
         let read = self.stdin.read(buf);
         match read {
             Ok(count) => {
-                // What was refused before, as by a signal, was read again.
+                // Bytes that were refused before, as by a signal, were read now.
                 self.refused = None;
                 self.keep(&buf[..count]);
             }

@@ -1,4 +1,4 @@
-//! What a switch did with the frames that went in, told on standard output.
+//! The answer on standard output on what a switch did with the frames that went in.
 use crate::files::refuse_shared;
 use crate::inputs::{shown_path, text_of};
 use crate::outputs::create;
@@ -139,7 +139,7 @@ fn answer_of(
     if !given.json {
         return answer_text(alloc, answer, questions, &notes).map_err(|_| NO_TRANSIT);
     }
-    let mut text = json_of(alloc, answer, questions, notes).map_err(|_| NO_TRANSIT)?;
+    let mut text = json_of(alloc, answer, questions, &notes).map_err(|_| NO_TRANSIT)?;
     text.push('\n').map_err(|_| NO_TRANSIT)?;
     Ok(text)
 }
@@ -187,7 +187,7 @@ fn walk_fault(fault: WatchFault, refused: Option<io::Error>) -> Outcome {
     }
 }
 
-/// What a pass found whose ledger is written, or how it ended.
+/// The findings of a pass whose ledger is written, or how it ended.
 fn found_of<'t>(
     outcome: Result<Transits<'t>, WatchFault>,
     refused: Option<io::Error>,

@@ -1,4 +1,4 @@
-//! What the test crates share: recordings and devices, tables of virtual links, filters, and a fixed
+//! The support that the test crates share: recordings and devices, tables of virtual links, filters, a fixed
 //! generator of numbers.
 
 mod generator;

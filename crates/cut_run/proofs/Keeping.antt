@@ -1,4 +1,4 @@
--- What is kept, as frames are dropped, taken out and kept.
+-- The frames that are kept, as frames are dropped, taken out and kept.
 use Rattle.std.proofs.Common.{◌≡◌, ◌<◌, Bool, true, List, [], ◌∷◌, Option, None, Some, length, refl, sym, ap, ◌∙◌, subst, arith}
 use Rattle.std.specs.Prelude.{IfSome, IfNone, IsSome}
 use Rattle.std.specs.BTreeMap.{BTreeMap, IsLowerBound, IsUnchanged, Updates, btree_map_len, is_at}

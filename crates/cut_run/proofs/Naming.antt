@@ -1,4 +1,4 @@
--- What a finder says of one network, as both recordings have it.
+-- The word of a finder on one network, as both recordings have it.
 use Rattle.std.proofs.Common.{◌≡◌, ◌∙◌, ℕ, ◌≤◌, List, [], ◌∷◌, ◌++◌, length, slice_get, Option, None, Some, Result, Ok, Err, refl, sym, ap, subst, inl, inr, arith}
 use Rattle.std.specs.Prelude.{MatchResult, IfSome}
 use Rattle.std.specs.Io.KnownBytes.{Consumes}

@@ -1,4 +1,4 @@
--- What a cut leaves, and why it was aborted (this project's profile).
+-- A cut: what it leaves, and why it was aborted (this project's profile).
 use Rattle.std.specs.Prelude.{◌≡◌, ◌⊎◌, ℕ, true, ◌+◌, ◌<◌, ◌≤◌, List, ◌++◌, length, take, Option, Some, None, Result, Ok, Err}
 use Rattle.std.specs.Io.KnownBytes.{Appends, Consumes}
 use Rattle.std.specs.List.{zip}
@@ -155,7 +155,7 @@ StopsAfter stage left rest v =
 abbrev pub ReadsNext : Option Network → LedgerStage → Option (List ℕ) → Option (List ℕ) → FrameLine → Type 0
 ReadsNext skips stage left rest v = StopsAfter stage left rest v × (is_read skips v.network ≡ true)
 
--- What the fault says of the line after these, of which each frame was found; `rest` is what the ledger's source still gives.
+-- The fault's word on the line after these, of which each frame was found; `rest` is what the ledger's source still gives.
 abbrev pub IsLineFault : Option Network → CutFault → CutDevices → List ReadLine → LedgerStage → Option (List ℕ) → Option (List ℕ) → List Frame → List Frame → Type 0
 IsLineFault skips (faults.Ledger n fault) before rs stage left rest frames_a frames_b = IsBadNext n fault rs stage left rest
 IsLineFault skips (faults.Order n) before rs stage left rest frames_a frames_b =

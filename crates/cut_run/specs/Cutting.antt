@@ -80,7 +80,7 @@ pub record StopsTaking {S T W : Type 0} (s : SourceMembers S) (t : SourceMembers
   pub b_failures : FailsWhere (names fault (RecordingSource B)) b.failures (finding_of t taking.recordings.b).reading.failures
   pub output_failures : FailsWhere (names fault OutputSink) output.failures (w.failures (sink_of taking.output))
 
--- What a call that writes the packet of a line's frame leaves of the sink. Where there was no memory for it, nothing was written.
+-- A call that writes the packet of a line's frame leaves the sink so. Where there was no memory for it, nothing was written.
 abbrev pub WritesPacket : Format → FrameLine → Frame → Result (Unit {0}) CutFault → Option (List ℕ) → Option (List ℕ) → ℕ → ℕ → Type 0
 WritesPacket format v f (Ok done) old new before after = Appends old new (line_packet format v f) × (after ≡ before)
 WritesPacket format v f (Err faults.Write) old new before after = AppendsPrefix old new (line_packet format v f) × CountsFailure before after

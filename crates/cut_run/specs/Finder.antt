@@ -1,4 +1,4 @@
--- What a finder has read of its recording, and what its calls say (the file is pcap savefile 2.4; the bounds are this project's profile).
+-- A finder: what it has read of its recording, and what its calls say (the file is pcap savefile 2.4; the bounds are this project's profile).
 use Rattle.std.specs.Prelude.{◌≡◌, ◌≢◌, ◌⊎◌, ℕ, ◌+◌, ◌-◌, ◌^◌, ◌≤◌, max, Bool, false, List, [], ◌∷◌, ◌++◌, length, Option, Some, IfSome, slice_get}
 use Rattle.std.specs.BTreeMap.{BTreeMap}
 use Rattle.afdx_frame.specs.Frame.{Frame}

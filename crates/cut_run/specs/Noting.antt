@@ -1,4 +1,4 @@
--- What is noted of a ledger's lines for their neighbours, and why it isn't (this project's profile).
+-- The notes on a ledger's lines for their neighbours, and why there are none (this project's profile).
 use Rattle.std.specs.Prelude.{◌≡◌, ◌⊎◌, ℕ, ◌≤◌, List, [], length, Option, None, Result, Ok, Err}
 use Rattle.ledger_text.specs.Ledger.{EndsAt, HasReadLines, ReadLine, ReadsLines, frame_lines}
 use Rattle.ledger_text.specs.Lines.{unread_of}

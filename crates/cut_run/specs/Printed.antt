@@ -1,4 +1,4 @@
--- What is printed of a ledger's lines, and why it was aborted (this project's format).
+-- The print of a ledger's lines, and why it was aborted (this project's format).
 use Rattle.std.specs.Prelude.{◌≡◌, ◌≢◌, ◌⊎◌, ℕ, true, ◌<◌, ◌≤◌, List, [], ◌∷◌, ◌++◌, length, flat_map, take, Option, None, Some, Result, Ok, Err, ⊤}
 use Rattle.std.specs.Io.KnownBytes.{Appends}
 use Rattle.afdx_frame.specs.Frame.{Frame}

@@ -1,4 +1,4 @@
-//! What is told of a cut while it runs.
+//! The observer of a cut, which is told of the lines while it runs.
 
 use ledger_text::FrameLine;
 

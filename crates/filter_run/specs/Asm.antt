@@ -1,4 +1,4 @@
--- What the command `asm` leaves, by what its devices show (this project's profile).
+-- The command `asm`: what it leaves, by what its devices show (this project's profile).
 use Rattle.std.specs.Prelude.{◌≡◌, ℕ, List, ◌++◌, Option, Some, None, Result, Ok, Err, codes}
 use Rattle.std.specs.Io.KnownBytes.{Appends}
 use Rattle.bpf_isa.specs.Numeric.{numeric_text}

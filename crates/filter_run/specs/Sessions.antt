@@ -1,4 +1,4 @@
--- What the command `debug` reads, prints and leaves (this project's profile).
+-- The command `debug`: what it reads, prints and leaves (this project's profile).
 use Rattle.std.specs.Prelude.{◌≡◌, ◌⊎◌, ℕ, Bool, true, false, not, ◌==◌, List, [], ◌∷◌, ◌++◌, length, codes, decimal, string_bytes, Option, Some, None, Result, Ok, Err}
 use Rattle.std.specs.Borrow.{Bor}
 use Rattle.std.specs.List.{list_all, slice_split}

@@ -1,4 +1,4 @@
-//! What holds of filters' sources by their definitions alone.
+//! Laws of filters' sources, which hold by their definitions alone.
 
 ghost use Rattle.filter_run.specs.Laws.{SourceMeansItsProgram};
 

@@ -1,4 +1,4 @@
--- What the rule says of the one seat that is left.
+-- The one seat that is left, and what the rule says of it.
 use Rattle.std.proofs.Common.{◌≡◌, ℕ, suc, ◌≢◌, min, List, [], ◌∷◌, get_or, set, refl, sym, subst, ap, ◌∙◌, ⊎_elim, arith}
 use mathlib.Core.Option.{some, some-injective, some-ne-none}
 use lib.ListN.{get_elem?}

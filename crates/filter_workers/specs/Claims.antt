@@ -23,7 +23,7 @@ once_below n k = if nat_lt k n then 1 else 0
 abbrev pub through_room : SeatView → ℕ
 through_room v = if v.through then v.room else 0
 
--- What a seat knows holds of the desk: it is through only where the word is past the last number. A view with no room is that
+-- A seat's knowledge of the desk: it is through only where the word is past the last number. A view with no room is that
 -- of a seat that was joined into another.
 pub record IsSeat (len word : ℕ) (v : SeatView) : Type 0 where
   pub of_desk : 0 < v.room → v.len ≡ len

@@ -1,4 +1,4 @@
--- What up to eight filters say of a frame (this project's profile).
+-- The word of up to eight filters on a frame (this project's profile).
 use Rattle.std.specs.Prelude.{ℕ, ◌+◌, ◌*◌, max, List, [], ◌∷◌, ◌==◌, if◌then◌else◌}
 use Rattle.afdx_frame.specs.Frame.{Frame}
 use Rattle.bpf_isa.specs.declared.packed.Packed.{Packed}

@@ -1,4 +1,4 @@
-//! What filters say of a frame.
+//! The decision of filters on a frame.
 ghost use Rattle.std.specs.Prelude.{◌≡◌, ◌≤◌, length};
 ghost use Rattle.afdx_frame.specs.View.{view_bytes};
 ghost use Rattle.bpf_machine.specs.Run.{answer_of};

@@ -1,5 +1,5 @@
-//! What any two steps of threads at a desk keep. The proofs need the names of the steps; they do nothing
-//! when they run.
+//! The rule that any two steps of threads at a desk keep. The proofs need the names of the steps; they do
+//! nothing when they run.
 ghost use Rattle.filter_workers.specs.Claims.{Draws, Looks, first_view, joined, keeps_half, Keeps, other_half, spent};
 
 use crate::view::SeatView;

@@ -1,4 +1,4 @@
-//! What one cause takes of another's signs, once the ledger has ended.
+//! The claims of one cause to another's signs, once the ledger has ended.
 use crate::accounts::{Account, Handle, Span};
 use crate::clocks::DriftFound;
 use crate::flight::Flight;

@@ -1,4 +1,4 @@
-//! What the end of a ledger says of a link: whether it stopped, and which frames the other network has alone.
+//! The end of a ledger, for a link: whether it stopped, and which frames the other network has alone.
 use crate::accounts::{Handle, Span};
 use crate::flight::Flight;
 use crate::groups::Event;

@@ -1,4 +1,4 @@
-//! What the links of a flight share: accounts, networks, clocks, and events that may have one cause.
+//! The state that a flight's links share: accounts, networks, clocks, and events that may have one cause.
 use crate::accounts::{Accounts, EMPTY, Handle, Span};
 use crate::clocks::{Clocks, SkewStep, Step};
 use crate::groups::{Event, Group};
@@ -21,7 +21,7 @@ const KEPT: usize = 64;
 pub struct Kept {
     pub kind: Kind,
     pub accounts: Vec<Handle>,
-    /// Those beyond the most that are kept.
+    /// The findings beyond the most that are kept.
     pub more: Option<Handle>,
 }
 

@@ -1,4 +1,4 @@
-//! What a finding is of.
+//! The kinds of findings, and how bad they are.
 
 /// The kinds of findings. docs/REPORT.md says what each means.
 #[derive(Clone, Copy, PartialEq, Eq, PartialOrd, Ord)]

@@ -1,4 +1,4 @@
-//! What a ledger says went wrong in a flight: findings.
+//! The findings of a flight: what went wrong in it, as its ledger says.
 //!
 //! A *sign* is one countable fact of a ledger's lines: a discard by its word, a number missing on a network,
 //! a frame closer than its BAG allows. Each sign is in exactly one *finding*, which names its cause, so the

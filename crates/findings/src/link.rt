@@ -1,4 +1,4 @@
-//! What is kept of a link, and what each of its frames says.
+//! The state of a link, and what each of its frames says.
 
 mod arriving;
 mod first;

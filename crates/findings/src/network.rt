@@ -1,4 +1,4 @@
-//! What is kept of a network: when it has lines, and its longest pauses.
+//! The state of a network: when it has lines, and its longest pauses.
 use crate::long::{Long, Time, ZERO};
 use std::alloc::{AllocError, Global};
 

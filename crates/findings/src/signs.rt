@@ -161,7 +161,7 @@ impl Signs {
         }
     }
 
-    /// Those that occurred, in the order in which they came.
+    /// The signs that occurred, in the order in which they came.
     pub fn all(&self) -> &[SignCount] {
         self.counts.as_slice()
     }

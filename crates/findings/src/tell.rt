@@ -473,7 +473,7 @@ impl Telling<'_> {
         Ok(())
     }
 
-    /// Those of a kind beyond the ones that are told.
+    /// Tells the findings of a kind beyond the ones that are told by themselves.
     fn rest(&mut self, kind: Kind, more: Handle) -> Result<(), AllocError> {
         let sum = self.sum_of(more)?;
         let count = self

@@ -1,4 +1,4 @@
-//! What a head says of which key its column is.
+//! The heads of columns, by which each says which key it has.
 
 use std::alloc::{AllocError, Global};
 use vl_config::Key;

@@ -1,4 +1,4 @@
-//! What an interface control document (ICD) specifies of virtual links, as separated values (RFC 4180).
+//! The virtual links that an interface control document (ICD) specifies, as separated values (RFC 4180).
 //!
 //! The first row that isn't blank has the heads of the columns, in any order: `id`, and those that the
 //! document has of `name`, `bag_ms`, `jitter_us`, `smax`, `integrity`, `redundancy` and `skew_us`, with the

@@ -1,4 +1,4 @@
-//! What a document specifies of one link.
+//! A link as a document specifies it.
 
 use afdx_frame::VlId;
 

@@ -1,4 +1,4 @@
-//! Whether the quotes of a document are closed, and where one isn't.
+//! The quotes of a document: the place of the first that isn't closed, if there is one.
 
 /// Where a byte stands in its cell.
 #[derive(Clone, Copy, PartialEq, Eq)]

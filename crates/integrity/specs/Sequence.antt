@@ -36,6 +36,6 @@ is_valid Next = true
 is_valid Skip = true
 is_valid Off = true
 
--- What a check knows after these numbers: the last of them. The list holds every number of the link and network so far.
+-- A check stands so after these numbers: it knows the last of them. The list holds every number of the link and network so far.
 abbrev pub StandsAfter : Option ℕ → List ℕ → Type 0
 StandsAfter last numbers = last ≡ number_before numbers (length numbers)

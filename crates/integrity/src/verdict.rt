@@ -4,7 +4,7 @@ ghost use Rattle.std.specs.Prelude.{◌≡◌, ◌↔◌};
 ghost use Rattle.integrity.specs.Sequence.{is_valid};
 ghost use Rattle.integrity.specs.Word.{integrity_word};
 
-/// What integrity checking says of a frame. All but [`Integrity::Out`] are valid: redundancy
+/// The verdict of integrity checking on a frame. All but [`Integrity::Out`] are valid: redundancy
 /// management sees the frame.
 ///
 /// From ARINC 664 Part 7: the next number and the one after it are accepted. The other cases are

@@ -1,4 +1,4 @@
--- What stands in a line `tap`, word by word.
+-- The words of a line `tap`, one by one.
 use Rattle.std.proofs.Common.{◌≡◌, ◌∙◌, ℕ, ◌+◌, Bor, ◌<◌, ◌≤◌, ◌==◌, ◌⊎◌, inl, inr, true, false, List, [], ◌∷◌, ◌++◌, length, get_or, take, drop, Option, Some, None, refl, sym, ap, subst, arith}
 use Rattle.std.specs.List.{AllWithin}
 use Rattle.std.specs.Cmp.Lexicographic.{pointwise}

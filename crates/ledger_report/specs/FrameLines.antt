@@ -1,4 +1,4 @@
--- What is held of a ledger's lines of frames so far, the newest first, to check the next one.
+-- The lines of a ledger's frames that are held so far, the newest first, to check the next one.
 use Rattle.std.specs.Prelude.{◌≡◌, ℕ, List}
 use Rattle.std.specs.Option.{option_map}
 use Rattle.ledger_text.specs.declared.frame.FrameLine.{FrameLine}

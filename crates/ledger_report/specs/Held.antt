@@ -1,4 +1,4 @@
--- What is held of the deliveries so far.
+-- The deliveries that are held so far.
 use Rattle.std.specs.Prelude.{ℕ, List, [], slice_get, slice_index_or, Option, None}
 use Rattle.std.specs.Option.{option_map_or}
 use Rattle.ledger_report.specs.declared.deliveries.Delivered.{Delivered}

@@ -46,7 +46,7 @@ place_at stage number left = record { stage = stage; number = number; left = lef
 abbrev pub IsNext : LedgerStage → Option (List ℕ) → List ℕ → LedgerLine → Type 0
 IsNext stage left text line = (rest : Option (List ℕ)) × TakesLine stage left rest (record { text = text; line = line })
 
--- What is wrong with the line after these: it is none of a ledger; or a line of counts that isn't that of the lines before; or the line of a frame,
+-- The fault of the line after these: it is none of a ledger; or a line of counts that isn't that of the lines before; or the line of a frame,
 -- against the table and the lines before.
 abbrev pub IsWrongNext : VlTable → WrongLine → List ReadLine → LedgerStage → Option (List ℕ) → Type 0
 IsWrongNext table (wrongs.Text fault) rs stage left =

@@ -1,4 +1,4 @@
--- What a ledger's line `tap` says: how a recording ends, and after how many frames (this project's format).
+-- A ledger's line `tap`: how a recording ends, and after how many frames (this project's format).
 use Rattle.std.specs.Prelude.{◌≡◌, ℕ, ◌<◌, ◌≤◌, List, [], ◌++◌, codes, decimal, length, All, Option, Some, None}
 use Rattle.std.specs.Char.{IsAsciiLowercase}
 use Rattle.std.specs.String.{string_bytes}

@@ -1,4 +1,4 @@
--- What is wrong with a ledger's line of a frame, against the table and the lines of frames before it, the newest first (this project's
+-- The faults of a ledger's line of a frame, against the table and the lines of frames before it, the newest first (this project's
 -- profile). Times are in nanoseconds.
 use Rattle.std.specs.Prelude.{◌≡◌, ℕ, ◌-◌, ◌==◌, nat_lt, Bool, true, false, not, ◌&&◌, ◌||◌, List, [], ◌∷◌, find, Option, Some, None, is_some, is_none, unwrap_or, Result, Ok, Err, ⊤}
 use Rattle.std.specs.Option.{option_and_then, option_map_or}

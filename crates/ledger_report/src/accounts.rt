@@ -1,4 +1,4 @@
-//! Whether the accounts of the table's links can give the verdicts that a ledger has.
+//! The accounts of the table's links, and whether they can give the verdicts that a ledger has.
 //!
 //! A ledger doesn't tell each frame's size. A size is at least the bytes that are kept, and at most Smax: so
 //! of each account the least and the most are known that it may hold. What neither gives proves that the
@@ -43,7 +43,7 @@ struct Bounds {
     smax: u32,
     bag: u64,
     cap: u128,
-    /// What it holds at least and at most.
+    /// The least that it may hold, and the most.
     least: u128,
     most: u128,
     /// The timestamp of the frame before.
@@ -66,7 +66,7 @@ impl Bounds {
         }
     }
 
-    /// What a frame of this size is charged.
+    /// The charge of a frame of this size.
     fn charge(&self, size: u32) -> u128 {
         u128::from(size).saturating_mul(u128::from(self.bag))
     }

@@ -1,4 +1,4 @@
-//! What is counted of a lane or a network, with its first and its last place and its bins.
+//! The counts of a lane or a network, with their first and last places and their bins.
 
 ghost use Rattle.std.specs.Prelude.{◌≡◌, ◌<◌, vec_len};
 

@@ -1,4 +1,4 @@
-//! What is kept of a network.
+//! The numbers of a network.
 
 use crate::anomalies::{Anomalies, Anomaly};
 use crate::lane::LaneReport;

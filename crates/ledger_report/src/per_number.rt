@@ -1,4 +1,4 @@
-//! What is held of the sequence numbers of a link.
+//! A value for each sequence number of a link.
 
 ghost use Rattle.std.specs.Prelude.{◌≡◌, ◌==◌, ◌≤◌, ℕ, [], Some, None, OnOk, if◌then◌else◌, slice_index_or, vec_len};
 

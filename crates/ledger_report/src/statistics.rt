@@ -1,4 +1,4 @@
-//! What each line adds to the numbers of its network and its link.
+//! The statistics of a ledger: what each line adds to the numbers of its network and its link.
 
 use crate::accounts::Accounts;
 use crate::anomalies::Anomaly;

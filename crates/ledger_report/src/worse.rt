@@ -1,4 +1,4 @@
-//! What got worse from one flight to the other.
+//! The links that got worse from one flight to the other.
 
 use crate::numbers::{Count, LinkNumbers};
 use afdx_frame::VlId;

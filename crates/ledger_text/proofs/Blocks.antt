@@ -1,4 +1,4 @@
--- What stands between two places of a block, and what reads do to it.
+-- The bytes between two places of a block, and what reads do to them.
 use Rattle.std.proofs.Common.{◌≡◌, ◌∙◌, ℕ, ◌+◌, ◌-◌, ◌<◌, ◌≤◌, List, [], ◌∷◌, ◌++◌, length, take, drop, slice_range, Option, Some, None, get_or, refl, sym, ap, arith, append_assoc, drop-drop, length-drop, eqb-true}
 use Rattle.std.specs.List.{position_or_len, before_first, after_first}
 use Rattle.std.specs.Io.KnownBytes.{Keeps, Consumes, prepend_known}

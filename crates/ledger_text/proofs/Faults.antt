@@ -1,4 +1,4 @@
--- What follows from the fields that are read so far.
+-- Consequences of the fields that are read so far.
 use Rattle.std.proofs.Common.{◌≡◌, ◌∙◌, ℕ, suc, ◌^◌, length, ◌<◌, ◌↔◌, false, List, [], ◌∷◌, Option, None, Some, IfSome, Result, Ok, Err, is_some, refl, sym, ap, subst, arith, lit<}
 use Rattle.std.specs.Option.{option_map_or}
 use Rattle.std.specs.Result.{result_ok}

@@ -1,4 +1,4 @@
--- What is taken by one of the elements before a place.
+-- The lines that one of the elements before a place takes.
 use Rattle.std.proofs.Common.{◌≡◌, ◌∙◌, ℕ, zero, suc, ◌+◌, ◌<◌, ◌≤◌, ◌&&◌, ◌||◌, ◌⊎◌, ◌↔◌, inl, inr, Bool, true, false, nat_le, List, [], ◌∷◌, length, get_or, refl, sym, subst, arith}
 use Rattle.std.specs.List.{Contains, HoldsAt}
 use Rattle.std.proofs.lemmas.List.{get_or_default}

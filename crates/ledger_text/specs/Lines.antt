@@ -23,7 +23,7 @@ lent_line lines = slice_range lines.block.items lines.from lines.to
 abbrev pub lines_left : {S : Type 0} → (S → Option (List ℕ)) → LineSource S → Option (List ℕ)
 lines_left remaining lines = prepend_known (unread_of lines) (remaining lines.source)
 
--- What is found next, which bytes it is, and what is left then: a line and its newline, which have room in a block; nothing; a last line with
+-- The next find, which bytes it is, and what is left then: a line and its newline, which have room in a block; nothing; a last line with
 -- no newline; or the first bytes of a line that has no room.
 abbrev pub IsNextLine : Option (List ℕ) → Option (List ℕ) → List ℕ → LineFound → Type 0
 IsNextLine before after line Line = NoNewline line × (length line < BLOCK_LEN) × Consumes before after (line ++ 10 ∷ [])

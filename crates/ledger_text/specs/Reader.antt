@@ -1,4 +1,4 @@
--- What contracts see of a reader of a ledger.
+-- A reader of a ledger, as contracts see it.
 use Rattle.std.specs.Prelude.{◌≡◌, ℕ, ◌+◌, List, Option, Bool, true, false}
 use Rattle.std.specs.Io.KnownBytes.{Keeps}
 use Rattle.pcap_io.specs.Device.{CountsFailure}

@@ -1,4 +1,4 @@
-//! What is wrong with a line.
+//! The faults of a line.
 
 ghost use Rattle.std.specs.Prelude.{◌≡◌};
 

@@ -1,4 +1,4 @@
-//! What a selection takes.
+//! The selection of a ledger's lines.
 ghost use Rattle.std.specs.Prelude.{IsTrue, ◌↔◌, IfSome, ◌≡◌, ◌≢◌, ◌≤◌, bit_and};
 ghost use Rattle.ledger_text.specs.Selection.{IsIn, IsTaken, SaysOne, moment_of};
 

@@ -1,4 +1,4 @@
-//! What standard error is told of a command's end: the fault line or the notes, and in full which file it is
+//! The words on a command's end for standard error: the fault line or the notes, and in full which file it is
 //! about, why, and what to do. See [`tell`].
 //!
 //! What a file is found to be by then is only told, and decides nothing: so nothing here has a contract, but

@@ -1,12 +1,12 @@
-//! What standard error is told of a command's end: the fault line or the notes, and at a terminal which file
+//! The words on a command's end for standard error: the fault line or the notes, and at a terminal which file
 //! it is about, why, and what to do. What a file is found to be by then is only told, and decides nothing.
 use afdx_frame::Network;
 use bpf_asm::AsmFault;
 use command_line::{
     Advice, EndingAdvice, Exit, Fault, FileOption, GivenFile, HEAD_LEN, Invocation, ManifestFault,
-    Note, ReportFault, Shown, TO_A_TERMINAL, TapNote, caret_at, compressed_advice, file_of,
-    header_advice, is_standard, load_offset, numeric_advice, numeric_offset, place_at,
-    source_offset, written_as,
+    Note, ReportFault, Shown, TEXT_ADVICE, TO_A_TERMINAL, TapNote, UNWRITTEN_ADVICE, caret_at,
+    compressed_advice, file_of, header_advice, is_standard, load_offset, numeric_advice,
+    numeric_offset, place_at, source_offset, written_as,
 };
 use cut_run::CutFault;
 use ledger_text::LedgerStop;
@@ -19,6 +19,8 @@ use std::io::Read;
 use std::{fmt, fs, io};
 use table_check::{key_offset, slip_of};
 use tap_inputs::{Cause, Detail, Disorder, MAX_TEXT, Outcome, Tap, TapFailure, Taps};
+use transit_cut::TransitCutFault;
+use transit_ledger::TransitFault;
 use vl_config::{Config, ConfigFault};
 
 /// Where a ledger ends whose run was stopped, or goes on.
@@ -87,6 +89,14 @@ impl<'a> CommandEnd<'a> {
         }
     }
 
+    /// The reason why standard input is no text.
+    fn text(&self) -> Option<&'a str> {
+        match &self.outcome.detail {
+            Some(Detail::Text(text)) => Some(text),
+            _ => None,
+        }
+    }
+
     /// Why the file of an option can't be had. That of a recording is known from who read it.
     fn cause(&self, file: FileOption) -> Option<Cause> {
         match tap_of(self.taps, file).and_then(|tap| tap.failure()) {
@@ -118,14 +128,15 @@ fn is_standard_among(command: Invocation<'_>, file: FileOption, taps: &Taps) -> 
     tap_of(taps, file).is_some_and(|tap| tap.is_of_several()) && path_of(command, file).is_none()
 }
 
-/// The need of a ledger or a manifest that is read. None: it is none, or is written.
-fn needs_to_be_read(command: Invocation<'_>, file: FileOption) -> Option<&'static str> {
+/// The advice on a ledger or a manifest that is read. None: it is none, or is written.
+fn read_advice(command: Invocation<'_>, file: FileOption) -> Option<&'static str> {
     if command.file_of(file).is_some_and(|file| file.is_written) {
         return None;
     }
     match file {
         FileOption::Ledger => Some(LEDGER_ADVICE),
         FileOption::Baseline => Some(BASELINE_ADVICE),
+        FileOption::Transit => Some(TRANSIT_ADVICE),
         FileOption::Manifest => Some(MANIFEST_ADVICE),
         _ => None,
     }
@@ -218,22 +229,34 @@ fn show_caret(rt: &HostRuntime, text: &str, at: usize) -> io::Result<()> {
     }
 }
 
-/// The need of a ledger that is read.
-const LEDGER_ADVICE: &str = "--ledger needs a ledger that can be read: a file of watch, or a pipe";
+/// The advice on a ledger that is read.
+const LEDGER_ADVICE: &str =
+    "Let --ledger name a ledger that can be read: a file of watch, or a pipe";
 
-/// The need of the ledger of an earlier flight.
+/// The advice on the ledger of an earlier flight.
 const BASELINE_ADVICE: &str =
-    "--baseline needs a ledger that can be read: a file of watch, or a pipe";
+    "Let --baseline name a ledger that can be read: a file of watch, or a pipe";
 
-/// The need of a manifest that is read.
+/// The advice on a ledger of transits that is read.
+const TRANSIT_ADVICE: &str =
+    "Let --transit name a ledger of transits that can be read: a file of transit, or a pipe";
+
+/// The advice on a manifest that is read.
 const MANIFEST_ADVICE: &str =
-    "--manifest needs a manifest that can be read: a file of watch, at most 16 MiB of UTF-8";
+    "Let --manifest name a manifest that can be read: a file of watch, at most 16 MiB of UTF-8";
+
+/// The advice on a document of links whose faults are listed.
+const ICD_ADVICE: &str = "Correct these lines, or name the heads of columns by --column KEY=HEAD";
+
+/// The advice on a ledger and a table that differ on a link.
+const DISPUTED_ADVICE: &str = "Take the table of the run, and the ledger as watch wrote it";
 
 /// The words for a person who names standard input beside other files of a recording.
-pub const STANDARD_AMONG: &str =
-    "'-' can't be one of several files of a recording: name standard input /dev/stdin there";
+pub const STANDARD_AMONG: &str = "\
+'-' can't be one of several files of a recording
+Name standard input /dev/stdin there";
 
-/// Tells why a file can't be opened, read or written, and what it needs.
+/// Tells why a file can't be opened, read or written, and which to name.
 fn explain_file(
     rt: &HostRuntime,
     command: Invocation<'_>,
@@ -241,18 +264,16 @@ fn explain_file(
     fault: &Fault,
     cause: Option<Cause>,
 ) -> io::Result<()> {
-    match (
-        name_of(command, file),
-        cause,
-        needs_to_be_read(command, file),
-    ) {
-        (Some(name), Some(cause), Some(_)) => eprintln!(rt; "{name}: {cause}"),
-        (name, None, Some(needs)) => advise(rt, name, needs),
-        (Some(name), Some(cause), None) => {
+    let name = match (name_of(command, file), cause) {
+        (Some(name), Some(cause)) => {
             eprintln!(rt; "{name}: {cause}")?;
-            rt.eprintln(Advice(fault))
+            None
         }
-        (name, ..) => advise(rt, name, Advice(fault)),
+        (name, _) => name,
+    };
+    match read_advice(command, file) {
+        Some(advice) => advise(rt, name, advice),
+        None => advise(rt, name, Advice(fault)),
     }
 }
 
@@ -279,7 +300,7 @@ fn explain_read(
     }
 }
 
-/// Shows what is wrong with a table: the key in its line, what stands there, and what is allowed.
+/// Shows what is wrong with a table: the key in its line, what stands there, and by what to correct it.
 fn explain_table(rt: &HostRuntime, command: Invocation<'_>, fault: ConfigFault) -> io::Result<()> {
     let Some(path) = path_of(command, FileOption::Config) else {
         return rt.eprintln(Advice(&Fault::Config(fault)));
@@ -300,7 +321,8 @@ fn explain_table(rt: &HostRuntime, command: Invocation<'_>, fault: ConfigFault) 
         Some(at) => show_place(rt, name, &text, at, Some(found))?,
         None => eprintln!(rt; "{name}: {found}")?,
     }
-    rt.eprintln(slip.allowed.as_str())
+    let allowed = slip.allowed.as_str();
+    eprintln!(rt; "Correct it: {allowed}")
 }
 
 /// Tells all that is wrong with a document of links, each fault after its line.
@@ -316,7 +338,7 @@ fn explain_icd(
     for line in listed.lines() {
         eprintln!(rt; "{name}:{line}")?;
     }
-    Ok(())
+    rt.eprintln(ICD_ADVICE)
 }
 
 /// Tells what is wrong with a manifest first, where its text can be had again.
@@ -477,9 +499,13 @@ fn explain_named(
     if is_standard_among(command, file, known.taps) {
         return rt.eprintln(STANDARD_AMONG);
     }
-    match known.stream() {
-        Some(told) => rt.eprintln(Shown(told)),
-        None => explain_file(rt, command, file, fault, known.cause(file)),
+    match (known.stream(), known.text()) {
+        (Some(told), _) => rt.eprintln(Shown(told)),
+        (None, Some(told)) => {
+            rt.eprintln(Shown(told))?;
+            rt.eprintln(TEXT_ADVICE)
+        }
+        (None, None) => explain_file(rt, command, file, fault, known.cause(file)),
     }
 }
 
@@ -529,7 +555,8 @@ fn explain_report(
     match (fault, name, known.disputed()) {
         (ReportFault::Read, ..) => explain_file(rt, command, file, told, known.cause(file)),
         (ReportFault::Contradiction { line, .. }, Some(name), Some(disputed)) => {
-            eprintln!(rt; "{name}: line {line}: {disputed}")
+            eprintln!(rt; "{name}: line {line}: {disputed}")?;
+            rt.eprintln(DISPUTED_ADVICE)
         }
         (ReportFault::Manifest(ManifestFault::Form { .. }), ..) => {
             explain_manifest(rt, command, name, told)
@@ -545,14 +572,16 @@ fn is_of_write(fault: &Fault) -> bool {
         Fault::Watch(WatchFault::Write { .. })
             | Fault::Transit(WatchFault::Write { .. })
             | Fault::Cut(CutFault::Write)
+            | Fault::TransitCut(TransitCutFault::Write)
             | Fault::Manifest
             | Fault::File(FileOption::Standard)
     )
 }
 
-/// Tells why an output couldn't be written.
+/// Tells why an output couldn't be written, and what to do.
 fn explain_unwritten(rt: &HostRuntime, name: Shown<'_>, cause: Cause) -> io::Result<()> {
-    eprintln!(rt; "{name}: {cause}")
+    eprintln!(rt; "{name}: {cause}")?;
+    rt.eprintln(UNWRITTEN_ADVICE)
 }
 
 /// Tells a person what a fault line means: the file and the place in it, why it can't be had or taken, and
@@ -578,6 +607,9 @@ fn explain(
         }
         (Fault::Baseline(found), Some(file)) => {
             explain_report(rt, command, file, found, fault, known)
+        }
+        (Fault::TransitLedger(TransitFault::Read), Some(file)) => {
+            explain_file(rt, command, file, fault, known.cause(file))
         }
         (Fault::Config(fault), _) => explain_table(rt, command, fault),
         (Fault::Icd(_), _) => explain_icd(rt, name, fault, known.listed()),

@@ -108,7 +108,7 @@ to_end_b s late fa fb out rest fol e none h =
     (λ t. (s, subst (λ (l : List Frame). Follows s fa l out) (sym (append-nil fb) ∙ ap (λ (l : List Frame). fb ++ l) (sym (none t))) fol))
     (λ t. all_b rest s late fa fb out fol e t h)
 
--- What was cut comes first in the order of both recordings whole, where those that have ended were fetched whole.
+-- The frames that were cut come first in the order of both recordings whole, where those that have ended were fetched whole.
 pub cut_comes_first : (s : MergerState) (late : ℕ) (fa fb out ra rb : List Frame) → Follows s fa fb out → s.late ≡ late
     → (s.a.ended ≡ true → ra ≡ []) → (s.b.ended ≡ true → rb ≡ []) → IsRecording A late (fa ++ ra) → IsRecording B late (fb ++ rb)
     → (rest : List Frame) × IsOrder (fa ++ ra) (fb ++ rb) (out ++ rest)

@@ -1,4 +1,4 @@
--- What a merger knows, which frames it may take and give, and what it has given along a whole run (this project's profile).
+-- A merger: what it knows, which frames it may take and give, and what it has given along a whole run (this project's profile).
 use Rattle.std.specs.Prelude.{◌≡◌, ℕ, ◌+◌, ◌≤◌, max, Bool, true, false, ◌||◌, ◌&&◌, nat_lt, nat_le, List, [], ◌∷◌, ◌++◌, length, take, drop, filter, Option, Some, None, ⊤}
 use Rattle.std.specs.List.{AllByRecursion}
 use Rattle.std.specs.Option.{ForSome, option_map_or}
@@ -7,7 +7,7 @@ use Rattle.afdx_frame.specs.declared.key.Network.{Network}
 use Rattle.afdx_frame.specs.declared.key.Network.TheVariants.{A, B}
 use Rattle.ordered_merge.specs.Order.{IsBefore, IsOrder, insert_frame}
 
--- What is known of a tap from its frames so far.
+-- The knowledge of a tap from its frames so far.
 pub record Tap : Type 0 where
   -- no frame follows
   pub ended : Bool

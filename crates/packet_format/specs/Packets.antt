@@ -1,4 +1,4 @@
--- What a capture begins with, and the bytes of a packet, in each format: the savefile of pcap 2.4 (its file and record headers, with timestamps in
+-- The head of a capture, and the bytes of a packet, in each format: the savefile of pcap 2.4 (its file and record headers, with timestamps in
 -- nanoseconds), and pcapng 1.0 (draft-ietf-opsawg-pcapng: Section Header, Interface Description and Enhanced Packet Blocks, a comment as opt_comment).
 use Rattle.std.specs.Prelude.{ℕ, List, Option}
 use Rattle.std.specs.Option.{option_map}

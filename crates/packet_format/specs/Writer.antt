@@ -1,4 +1,4 @@
--- What contracts see of a writer of packets, and what a call leaves of its sink.
+-- A writer of packets as contracts see it, and what a call leaves of its sink.
 use Rattle.std.specs.Prelude.{◌≡◌, ℕ, Bool, true, List, Option, Result, Ok, Err, ⊤}
 use Rattle.std.specs.Io.KnownBytes.{Appends}
 use Rattle.packet_format.specs.Packets.{Format, Pcap, Pcapng, format_of, head_by}
@@ -36,7 +36,7 @@ abbrev pub HoldsHead : Format → List ℕ → Type 0
 HoldsHead Pcap bytes = ⊤
 HoldsHead (Pcapng interfaces names) bytes = bytes ≡ head_by (Pcapng interfaces names)
 
--- What a call that writes these bytes leaves of its sink: they were written, or a prefix of them where the sink failed. Where there was no
+-- A call that writes these bytes leaves its sink so: they were written, or a prefix of them where the sink failed. Where there was no
 -- memory, which only pcapng packets need, nothing was written.
 abbrev pub Puts : Format → Result (Unit {0}) PacketFault → Option (List ℕ) → Option (List ℕ) → ℕ → ℕ → List ℕ → Type 0
 Puts format (Ok done) old new before after bytes = Appends old new bytes × (after ≡ before)

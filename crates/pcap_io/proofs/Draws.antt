@@ -1,4 +1,4 @@
--- What draws and reads do to the bytes that were read ahead.
+-- The effect of draws and reads on the bytes that were read ahead.
 use Rattle.std.proofs.Common.{◌≡◌, ℕ, ◌+◌, ◌-◌, ◌≤◌, List, [], ◌++◌, length, take, drop, slice_range, Option, Some, None, Result, Ok, Err, OnErr, refl, sym, ap, ◌∙◌, arith, append_assoc, drop-drop}
 use Rattle.std.proofs.lemmas.List.{length-drop, length-append, length-take, length-take-le, take_at}
 use borrow.Rule.Slice.PartMut.{put_mid}

@@ -1,4 +1,4 @@
--- What the first bytes of a recording say of all of them.
+-- The first bytes of a recording, and what they say of all of them.
 use Rattle.std.proofs.Common.{◌≡◌, ℕ, ◌≤◌, false, List, ◌++◌, length, take, drop, nat_lt, Option, Some, None, IfSome, Result, Ok, refl, sym, ap, ◌∙◌, arith}
 use Rattle.std.proofs.lemmas.Bool.{le-ltb}
 use Rattle.std.proofs.lemmas.List.{take_at, drop_at, take_all, length-append}

@@ -1,4 +1,4 @@
--- What a step of a reader finds, from what its reads found.
+-- The find of a reader's step, from what its reads found.
 use Rattle.std.proofs.Common.{inr, ◌≡◌, ◌≢◌, ℕ, zero, suc, ◌-◌, ◌<◌, ◌≤◌, max, true, false, List, ◌++◌, length, take, drop, Option, Some, None, IfSome, nat_lt, nat_eq, refl, sym, ap, ◌∙◌, subst, arith}
 use Rattle.std.proofs.lemmas.Bool.{le-ltb, lt-ltb, ne_eqb}
 use Rattle.std.proofs.lemmas.List.{take_at, take_all, append-nil, length-append, length-take}

@@ -1,4 +1,4 @@
--- What one more read or write adds to those before it.
+-- One more read or write, and what it adds to those before it.
 use Rattle.std.proofs.Common.{◌≡◌, ℕ, ◌+◌, ◌-◌, ◌^◌, ◌≤◌, min, max, Bool, true, false, ◌||◌, List, ◌++◌, length, take, drop, Option, Result, Ok, Err, IsErr, refl, sym, ap, ◌∙◌, subst, arith, inl, inr, ◌⊎◌, Some, None}
 use Rattle.std.proofs.lemmas.List.{length-take-le, take-append-le, take_at, take-append-drop, take_min, drop-drop, length-drop, length-append}
 use Rattle.std.proofs.Math.Seq.{take-append-add}

@@ -1,4 +1,4 @@
--- What contracts see of a source that is read a block at a time.
+-- A source that is read a block at a time, as contracts see it.
 use Rattle.std.specs.Prelude.{◌≡◌, ◌⊎◌, ℕ, ◌<◌, List, [], slice_range, Option}
 use Rattle.std.specs.Io.KnownBytes.{prepend_known}
 use Rattle.afdx_frame.specs.FrameBytes.{block_bytes}
@@ -37,7 +37,7 @@ drawn_bytes b = slice_range (items_of b.block) b.from b.start
 abbrev pub block_remaining : {S : Type 0} → (S → Option (List ℕ)) → BlockSource S → Option (List ℕ)
 block_remaining remaining b = prepend_known (unread_bytes b) (remaining b.source)
 
--- What a fault says of a draw of so many bytes, by how often the source failed before and after it. Memory is missing only
+-- The fault of a draw of so many bytes, by how often the source failed before and after it. Memory is missing only
 -- for at least one byte.
 abbrev pub IsDrawFault : ℕ → ℕ → ℕ → ReadFault → Type 0
 IsDrawFault len old new faults.Device = CountsFailure old new

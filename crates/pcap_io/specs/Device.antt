@@ -1,4 +1,4 @@
--- What a call does to a device: the bytes that it takes or gives, and the count of its failures.
+-- The effect of a call on a device: the bytes that it takes or gives, and the count of its failures.
 use Rattle.std.specs.Prelude.{◌≡◌, ℕ, ◌+◌, ◌-◌, ◌^◌, ◌<◌, ◌≤◌, min, List, length, take, Option, Result, OnOk, OnErr}
 use Rattle.std.specs.Io.KnownBytes.{Appends, Consumes}
 

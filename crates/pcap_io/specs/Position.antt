@@ -114,21 +114,21 @@ LacksBytes p before after unread =
     (TakesFewer PACKET_HEADER_LEN before after × (unread ≡ []))
     ⊎ ((header : List ℕ) × TakesHeader p before after header × (length unread < (header_fields p.layout header).captured_len))
 
--- What a fault says of a call, by how often the source had failed before and after it. Memory is missing only after the header of a
+-- The fault of a call, by how often the source had failed before and after it. Memory is missing only after the header of a
 -- good packet that claims at least one byte, which is gone.
 abbrev pub IsReadFault : Position → Option (List ℕ) → Option (List ℕ) → ℕ → ℕ → ReadFault → Type 0
 IsReadFault p before after old new faults.Device = CountsFailure old new
 IsReadFault p before after old new faults.Memory = (new ≡ old) × LacksMemory p before after
 IsReadFault p before after old new faults.Failed = (new ≡ old) × (p.stage ≡ stages.Failed)
 
--- What stands of a reader: its position, the bytes left, where its source exposes them, how often its source failed, and what that tells.
+-- The state of a reader: its position, the bytes left, where its source exposes them, how often its source failed, and what that tells.
 pub record Reading : Type 0 where
   pub position : Position
   pub remaining : Option (List ℕ)
   pub failures : ℕ
   pub told : Told
 
--- What a call says that goes on to the next item, of what stood before it and stands after it. `as_item` is the item of what
+-- The step of a call that goes on to the next item, from what stood before it to what stands after it. `as_item` is the item of what
 -- it returned.
 pub record Advances {A : Type 0} (as_item : A → Item) (old new : Reading) (r : Result A ReadFault) : Type 0 where
   -- the next good packet's frame, or the ending of what is left

@@ -1,4 +1,4 @@
--- What contracts see of a reader.
+-- A reader, as contracts see it.
 use Rattle.std.specs.Prelude.{ℕ, List, Option}
 use Rattle.afdx_frame.specs.Frame.{Frame, frame_with}
 use Rattle.pcap_io.specs.Block.{block_items, block_source, unread_bytes, drawn_bytes, block_remaining}

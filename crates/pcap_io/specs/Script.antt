@@ -1,4 +1,4 @@
--- What a device over memory does, call by call, as its script says (this project's profile).
+-- The calls of a device over memory, one by one, as its script says (this project's profile).
 use Rattle.std.specs.Prelude.{ℕ, ◌+◌, ◌-◌, ◌^◌, min, max, Bool, false, ◌||◌, Option, Some, None, Result, Ok, Err, ◌==◌, if◌then◌else◌}
 use Rattle.pcap_io.specs.declared.script.Script.{Script}
 use Rattle.pcap_io.specs.declared.script.ScriptState.{ScriptState}

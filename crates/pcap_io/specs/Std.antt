@@ -1,4 +1,4 @@
--- What a device over a reader or a writer of std answers, by what the call of std returned.
+-- The answers of a device over a reader or a writer of std, by what the call of std returned.
 use Rattle.std.specs.Prelude.{ℕ, ◌+◌, ◌-◌, ◌^◌, min, ◌&&◌, Result, Ok, Err, nat_lt, ◌==◌, if◌then◌else◌}
 use Rattle.pcap_io.specs.declared.device.DeviceFault.{DeviceFault}
 

@@ -1,4 +1,4 @@
--- What a device over memory holds, and where it stands in its script.
+-- The bytes that a device over memory holds, and where it stands in its script.
 use Rattle.std.specs.Prelude.{ℕ, min, List, length}
 use Rattle.pcap_io.specs.declared.script.ScriptState.{ScriptState}
 

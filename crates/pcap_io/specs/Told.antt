@@ -1,4 +1,4 @@
--- What a source tells of its recording once its bytes are at their end (this project's profile).
+-- The word of a source on its recording once its bytes are at their end (this project's profile).
 use Rattle.std.specs.Prelude.{◌≡◌, ℕ, List, Option, IfSome, ◌==◌, if◌then◌else◌}
 use Rattle.pcap_io.specs.declared.layout.HeaderFault.{HeaderFault}
 use Rattle.pcap_io.specs.declared.layout.HeaderFault.TheVariants.{Short}

@@ -1,4 +1,4 @@
--- What contracts see of a writer of captures.
+-- A writer of captures, as contracts see it.
 use Rattle.std.specs.Prelude.{Bool, Result, Ok, Err}
 use Rattle.pcap_io.specs.declared.writer.CaptureWriter.{CaptureWriter}
 

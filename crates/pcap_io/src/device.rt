@@ -36,7 +36,7 @@ pub trait TapSource {
     /// room is the end.
     fn read(&mut self, buf: &mut [u8]) -> Result<usize, DeviceFault>
         ensures bound { IfOk result (λ n. n ≤ length buf.new) }
-        // What it gives leaves the device, none only at the end; a fault gives nothing.
+        // The bytes that it gives leave the device, none only at the end; a fault gives nothing.
         ensures bytes { ReadConsumes (remaining self.old) (remaining self.new) result buf.new }
         ensures told { StaysTold (remaining self.old) (told self.old) (told self.new) }
         ensures over { result ≡ Ok 0 → 0 < length buf.new → is_over self.new ≡ true }
@@ -66,7 +66,7 @@ pub trait OutSink {
     fn write(&mut self, bytes: &[u8]) -> Result<usize, DeviceFault>
         ensures bound { IfOk result (λ n. n ≤ length bytes.now) }
         ensures some { IfOk result (λ n. 0 < length bytes.now → 0 < n) }
-        // What it took stands at the end; a fault takes nothing.
+        // The bytes that it took stand at the end; a fault takes nothing.
         ensures bytes { WriteAppends (contents self.old) (contents self.new) result bytes.now }
         ensures no_failure { OnOk result (NoFailure (failures self.old) (failures self.new)) }
         ensures fault { OnErr result (CountsFailure (failures self.old) (failures self.new)) };

@@ -1,4 +1,4 @@
-//! What a reader finds, and why it may find nothing.
+//! The items that a reader finds, and why it may find nothing.
 ghost use Rattle.std.specs.Prelude.{◌≡◌};
 
 use crate::device::DeviceFault;

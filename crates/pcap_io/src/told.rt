@@ -1,4 +1,4 @@
-//! What a source tells of its recording besides the bytes of its packets.
+//! The word of a source on its recording, besides the bytes of its packets.
 ghost use Rattle.std.specs.Prelude.{◌≡◌};
 ghost use Rattle.pcap_io.specs.Told.{told_ending, told_fault};
 

@@ -1,4 +1,4 @@
--- What is given for bytes is bytes.
+-- Bytes are given for bytes.
 use Rattle.std.proofs.Common.{◌≡◌, ℕ, zero, suc, ◌+◌, ◌-◌, ◌/◌, ◌%◌, ◌<◌, Bool, true, false, if◌then◌else◌, ◌==◌, List, [], ◌∷◌, ◌++◌, length, take, drop, slice_range, nat_lt, Option, Some, None, IfSome, Result, Ok, Err, refl, subst, arith}
 use Rattle.std.proofs.Common.{lit<}
 use Rattle.std.specs.Int.{byte_at, bytes_high_first, bytes_low_first}

@@ -1,4 +1,4 @@
--- What contracts see of a comment.
+-- A comment, as contracts see it.
 use Rattle.std.specs.Prelude.{ℕ, List, Option}
 use Rattle.std.specs.Option.{option_map}
 use Rattle.pcapng.specs.declared.comment.Comment.{Comment}

@@ -58,7 +58,7 @@ blocks_of order bytes = blocks_within (length bytes) order bytes
 
 -- ---- what a block says
 
--- What a block gives, and what is known after it.
+-- The yield of a block, and what is known after it.
 pub record Read : Type 0 where
   pub given : List ℕ
   pub known : Known
@@ -131,7 +131,7 @@ read_as kinds.ObsoletePacket k order bytes = packet_read k order (fields_of orde
 read_as kinds.SimplePacket k order bytes = Err reasons.SimplePacket
 read_as kinds.Other k order bytes = other_read k order bytes
 
--- What a whole block of this start says, or the reason that ends the reading.
+-- The yield of a whole block of this start, or the reason that ends the reading.
 unfoldable pub read_of : Known → BlockStart → List ℕ → Result Read BadReason
 read_of k start bytes = read_as start.kind k start.order bytes
 
@@ -181,7 +181,7 @@ first_with (Ok start) bytes = first_as start.kind start bytes
 unfoldable pub first_of : List ℕ → FirstSection
 first_of bytes = first_with (start_of Little bytes) bytes
 
--- What is given: nothing where the bytes end within the section header, or where that is wrong, and then what is wrong with it.
+-- The yield of a file: nothing where the bytes end within the section header, or where that is wrong, and then what is wrong with it.
 abbrev pub opened : FirstSection → Known → List ℕ → Given
 opened (firsts.Needs needed) k bytes = only tolds.Nothing
 opened (firsts.Wrong fault) k bytes = only (tolds.NoHeader fault)

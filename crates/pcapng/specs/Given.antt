@@ -1,4 +1,4 @@
--- What is given of a file: the bytes of a pcap file, and what is told at their end (this project's profile).
+-- The yield of a file: the bytes of a pcap file, and what is told at their end (this project's profile).
 use Rattle.std.specs.Prelude.{ℕ, List, [], ◌++◌, Result}
 use Rattle.pcap_io.specs.Layout.{header_of}
 use Rattle.pcap_io.specs.declared.layout.HeaderFault.{HeaderFault}

@@ -1,4 +1,4 @@
--- What a source gives for a recording: the pcap that a pcapng file stands for, and of any other file its bytes.
+-- The bytes that a source gives for a recording: the pcap that a pcapng file stands for, and of any other file its own.
 use Rattle.std.specs.Prelude.{◌≡◌, ℕ, ◌+◌, ◌<◌, ◌≤◌, List, ◌++◌, length, take, drop, slice_range, Option, Some, None, Bool, true, false, nat_lt, ◌==◌, if◌then◌else◌, ⊤}
 use Rattle.std.specs.Io.KnownBytes.{Keeps}
 use Rattle.byteorder.specs.Endian.{big_number}
@@ -21,14 +21,14 @@ use Rattle.pcapng.specs.declared.converter.Step.{Step}
 use Rattle.pcapng.specs.declared.converter.Step.TheVariants as steps
 use Rattle.pcapng.specs.declared.source.RecordingSource.{RecordingSource}
 
--- What is given where the first four bytes are this number: a section header's type begins a pcapng file.
+-- The yield where the first four bytes are this number: a section header's type begins a pcapng file.
 abbrev pub given_as : ℕ → Known → List ℕ → Given
 given_as magic k bytes = if magic == 0x0a0d0d0a then pcap_of k bytes else plain bytes
 
 abbrev pub given_from : Known → List ℕ → Given
 given_from k bytes = if nat_lt (length bytes) 4 then plain bytes else given_as (big_number 4 (take 4 bytes)) k bytes
 
--- What is given for a whole recording, of which this interface is chosen.
+-- The yield of a whole recording, of which this interface is chosen.
 abbrev pub given_of : Choice → List ℕ → Given
 given_of choice bytes = given_from (unknown choice Little) bytes
 

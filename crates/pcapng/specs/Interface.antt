@@ -13,7 +13,7 @@ use Rattle.pcapng.specs.declared.interface.Offset.TheVariants.{Later, Earlier}
 use Rattle.pcapng.specs.declared.interface.Resolution.{Resolution}
 use Rattle.pcapng.specs.declared.interface.Resolution.TheVariants.{Decimal, Binary}
 
--- What its description says of an interface.
+-- The facts of an interface that its description says.
 pub record Described : Type 0 where
   -- its number in its section, from 0
   pub number : ℕ

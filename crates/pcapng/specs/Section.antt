@@ -20,7 +20,7 @@ pub record Remembered : Type 0 where
   -- its name, where one of them gave it one: the last
   pub name : Option (List ℕ)
 
--- What is known of a recording where a block begins.
+-- The knowledge of a recording where a block begins.
 pub record Known : Type 0 where
   pub choice : Choice
   -- the byte order of the section

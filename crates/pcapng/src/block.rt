@@ -1,4 +1,4 @@
-//! What the next bytes of a recording begin: a block, and what it says.
+//! The block that the next bytes of a recording begin, and what it says.
 ghost use Rattle.std.specs.Prelude.{◌≡◌, ◌≢◌, ◌+◌, ◌-◌, ◌≤◌, length, slice_range, IfOk, OnOk};
 ghost use Rattle.pcapng.specs.File.{first_of};
 ghost use Rattle.pcapng.specs.Options.{options_of};

@@ -42,10 +42,10 @@ impl InterfaceName {
 /// Which packets of a pcapng recording are read. Of no other format anything is chosen.
 #[derive(Clone, Copy, Debug, PartialEq, Eq)]
 pub enum Choice {
-    /// Those of the only Ethernet interface that has packets.
+    /// The packets of the only Ethernet interface that has some.
     Any,
-    /// Those of the interface of this number in its section.
+    /// The packets of the interface of this number in its section.
     Number(u32),
-    /// Those of the first interface of this name in its section.
+    /// The packets of the first interface of this name in its section.
     Name(InterfaceName),
 }

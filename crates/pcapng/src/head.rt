@@ -1,4 +1,4 @@
-//! What a capture begins with.
+//! The head of a capture.
 ghost use Rattle.std.specs.Prelude.{◌≡◌, ◌++◌, OnOk, OnErr};
 ghost use Rattle.pcapng.specs.Blocks.{descriptions_of, head_bytes, section_header};
 
@@ -18,7 +18,7 @@ const ONE: [u8; 32] = [
     0,
 ];
 
-/// Those of networks A and B, which have names.
+/// The interfaces of networks A and B, which have names.
 const NETWORKS: [u8; 80] = [
     1, 0, 0, 0, 40, 0, 0, 0, 1, 0, 0, 0, 0, 0, 4, 0, 2, 0, 1, 0, b'A', 0, 0, 0, 9, 0, 1, 0, 9, 0,
     0, 0, 0, 0, 0, 0, 40, 0, 0, 0, 1, 0, 0, 0, 40, 0, 0, 0, 1, 0, 0, 0, 0, 0, 4, 0, 2, 0, 1, 0,

@@ -1,4 +1,4 @@
-//! What is written is read: laws that hold of the definitions alone.
+//! Written captures are read back: laws that hold of the definitions alone.
 ghost use Rattle.pcapng.specs.Captures.{CaptureIsGiven, CaptureIsRead, NetworkIsGiven, NetworkIsRead};
 
 /// Of a written capture the pcap of its packets is given: each with its timestamp, its lengths and the

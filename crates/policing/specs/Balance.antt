@@ -1,4 +1,4 @@
--- What an account knows after a list of frames (ARINC 664 P7).
+-- The knowledge of an account after a list of frames (ARINC 664 P7).
 use Rattle.std.specs.Prelude.{◌≡◌, ℕ, ◌+◌, ◌-◌, ◌*◌, ◌≤◌, ◌⊎◌, min, List, [], ◌∷◌, Option, Some, None, unwrap_or}
 use Rattle.vl_config.specs.Link.{VirtualLink}
 use Rattle.policing.specs.Windows.{Entry, cap_of, credit, charges}
@@ -41,7 +41,7 @@ FillsOne link now [] content = content ≡ cap_of link
 FillsOne link now (entry ∷ entries) content =
     (content + charges link (entry ∷ entries) ≡ cap_of link + credit link (now - entry.stamp)) ⊎ FillsOne link now entries content
 
--- What an account knows after these frames: the last timestamp, and the least room that a window up to then has left.
+-- An account stands so after these frames: it knows the last timestamp, and the least room that a window up to then has left.
 pub record StandsAfter (balance : Balance) (link : VirtualLink) (entries : List Entry) : Type 0 where
   pub smax : balance.smax ≡ link.smax
   pub bag : balance.bag ≡ link.bag

@@ -1,4 +1,4 @@
--- What steps do to what is given.
+-- The effect of steps on what is given.
 use Rattle.std.proofs.Common.{◌≡◌, ℕ, ◌+◌, ◌<◌, ◌≤◌, true, List, [], ◌∷◌, ◌++◌, length, take, drop, Option, Some, None, Result, Ok, Err, IfOk, OnErr, refl, sym, ap, ◌∙◌, subst, arith}
 use Rattle.std.proofs.lemmas.List.{append-nil, length-append, length-take-le}
 use borrow.Rule.Slice.PartMut.{put_mid, post_of}

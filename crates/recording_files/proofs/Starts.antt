@@ -1,4 +1,4 @@
--- What the first bytes of a file or of a packet say, as they are drawn.
+-- The first bytes of a file or of a packet, and what they say as they are drawn.
 use Rattle.std.proofs.Common.{◌≡◌, ℕ, ◌<◌, Bool, true, false, if◌then◌else◌, ◌==◌, List, [], ◌++◌, length, drop, nat_lt, Option, Some, None, Result, Ok, Err, IfOk, IfSome, ◌⊎◌, inl, inr, refl, sym, ap, ◌∙◌, arith}
 use Rattle.std.proofs.lemmas.Bool.{eqb-false, lt-ltb}
 use Rattle.std.proofs.lemmas.List.{append-nil, drop_at}

@@ -60,7 +60,7 @@ part_given layout bytes =
     if nat_lt (length bytes) PACKET_HEADER_LEN then only tolds.Cut
     else plain (header_text (given_header layout (head_of layout bytes)) ++ drop PACKET_HEADER_LEN bytes)
 
--- What is given for the packets that a file has left, of which there are fewer than n, and for the next files.
+-- The bytes that are given for the packets that a file has left, of which there are fewer than n, and for the next files.
 unfoldable pub given_within : ℕ → Layout → Told → List ℕ → Given → Given
 given_within zero layout told bytes next = only tolds.Nothing
 given_within (suc n) layout told bytes next =
@@ -103,7 +103,7 @@ abbrev pub given_next : List Given → Given
 given_next [] = only tolds.Nothing
 given_next (file ∷ files) = given_file Next file (given_next files)
 
--- What is given for all files. No file at all is as one of no bytes.
+-- The bytes that are given for all files. No file at all is as one of no bytes.
 abbrev pub given_of : List Given → Given
 given_of [] = only (no_header First Short)
 given_of (file ∷ files) = given_file First file (given_next files)

@@ -1,4 +1,4 @@
--- What is left to give of the files, by what was read of them.
+-- The bytes that are left to give of the files, by what was read of them.
 use Rattle.std.specs.Prelude.{◌≡◌, ℕ, List, [], ◌++◌, drop, Option, Some, None, Bool, true, false}
 use Rattle.std.specs.Io.KnownBytes.{Consumes}
 use Rattle.pcap_io.specs.Bytes.{known_bytes}

@@ -1,4 +1,4 @@
--- What contracts see of the file that is read.
+-- The file that is read, as contracts see it.
 use Rattle.std.specs.Prelude.{◌≡◌, ℕ, List, [], ◌++◌, drop, Option, Some, None, Result, Ok, Err, IfOk, IfSome, Bool, true, ⊤}
 use Rattle.pcap_io.specs.Block.{block_remaining, block_source, drawn_bytes}
 use Rattle.pcap_io.specs.Layout.{header_of}

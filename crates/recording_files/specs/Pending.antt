@@ -1,4 +1,4 @@
--- What contracts see of a header that is given.
+-- A header that is given, as contracts see it.
 use Rattle.std.specs.Prelude.{ℕ, List, slice_range}
 use Rattle.recording_files.specs.declared.pending.Pending.{Pending}
 

@@ -1,4 +1,4 @@
--- What a supply of files gives.
+-- A supply of files, and what it gives.
 use Rattle.std.specs.Prelude.{◌≡◌, ℕ, List, [], ◌∷◌, Option, Some, None, ⊤}
 use Rattle.pcap_io.specs.declared.told.Told.{Told}
 use Rattle.pcapng.specs.Given.{Given}

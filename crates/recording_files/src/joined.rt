@@ -62,7 +62,7 @@ impl<F: TapSource + Drop, P: FileSupply<F>> JoinedSource<P, F> {
     /// Reads the files of a supply. It takes none yet, and allocates nothing.
     pub fn new(alloc: Global, supply: P) -> JoinedSource<P, F>
         ensures no_failure { ⟦<JoinedSource<P, F> as TapSource>⟧.failures result ≡ 0 }
-        // What is given for the files, where each of it is a byte.
+        // The bytes that are given for the files, where each of theirs is a byte.
         ensures whole { IfSome (P.files supply) (λ files.
             (remaining_of F.remaining F.told P.files result ≡ bytes_of (given_of files).bytes)
             × (told_of F.remaining F.told P.files result ≡ (given_of files).told)) }

@@ -50,7 +50,7 @@ verdict_of on skew entries network number stamp =
     then (if is_copy (option_map delivery_of (latest_delivery entries number)) skew network stamp then Copy else Deliver)
     else Both
 
--- What a pair knows after these frames: of each sequence number where and when its latest delivery came.
+-- A pair stands so after these frames: of each sequence number it knows where and when its latest delivery came.
 abbrev pub StandsAfter : List (Option Delivery) → List Entry → Type 0
 StandsAfter latest entries =
     (number : ℕ) → number < 256 →

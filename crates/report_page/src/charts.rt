@@ -346,7 +346,7 @@ const BEGIN: &str = "\
 preserveAspectRatio=\"none\" role=\"img\"><title>$title$</title>";
 
 /// Appends the beginning of a row, and the grid of its drawing.
-fn begin_row(page: &mut Page, view: &View<'_>, texts: Texts<'_>, height: u64) {
+pub fn begin_row(page: &mut Page, view: &View<'_>, texts: Texts<'_>, height: u64) {
     fill!(page; BEGIN; label = Text(texts.0), detail = Text(texts.1), title = Text(texts.2),
         used = Number(view.used as u64), height = Number(height));
     push_grid(page, view, height);

@@ -1,4 +1,4 @@
-//! What to look at first: the findings, worst first.
+//! The list of what to look at first: the findings, worst first.
 
 use crate::compared::is_new;
 use crate::cut_command::push_cut;

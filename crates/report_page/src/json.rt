@@ -365,6 +365,8 @@ impl Json {
         self.outside(report);
         self.name("manifest");
         self.page.text(manifest);
+        self.name("transit");
+        self.page.text(view.transit.unwrap_or("null"));
         if let Some(before) = before {
             self.baseline(view, before);
         }

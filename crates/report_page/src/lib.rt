@@ -6,6 +6,8 @@
 //! - [`csv_of`]: its links as comma-separated values.
 //! - [`failing`]: how many findings a report fails on.
 //! - [`json_of`]: the same numbers as one JSON object; docs/REPORT.md has its members.
+//! - [`Page`], [`View`], [`begin_row`], [`push_axis`]: what a section of another crate is written with. It
+//!   stands in the page by [`Shown`]'s `transit`.
 //!
 //! Each takes the report of an earlier flight, a baseline, and then tells what got worse.
 //!
@@ -49,10 +51,12 @@ mod text;
 mod view;
 mod writer;
 
+pub use charts::{Texts, begin_row, push_axis};
 pub use csv::csv_of;
 pub use json::json_of;
 pub use page::page_of;
 pub use ranks::failing;
 pub use sizes::has_sizes;
 pub use summary::summary_of;
-pub use view::Shown;
+pub use view::{Shown, View};
+pub use writer::{Named, Page, Part, flag};

@@ -191,6 +191,7 @@ fn push_section(page: &mut Page, view: &View<'_>, before: Option<&View<'_>>, nam
         "ending b" => push_ending(page, &view.report.endings.b),
         "findings" => push_findings(page, view),
         "timeline" => push_timeline(page, view),
+        "transit" => page.text(view.transit.unwrap_or("")),
         "links" => push_links(page, view),
         "strips" => push_strips(page, view),
         "comparison" => push_comparison(page, view, before),

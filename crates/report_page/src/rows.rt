@@ -1,4 +1,4 @@
-//! What is drawn by time: the timeline of both networks, and the strips of the worst links.
+//! The rows that are drawn by time: the timeline of both networks, and the strips of the worst links.
 
 use crate::charts::Kind::{Greatest, Sum};
 use crate::charts::{Classes, Drawing, Pauses, push_axis, push_events, push_intervals, push_row};

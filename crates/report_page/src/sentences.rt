@@ -1,4 +1,4 @@
-//! What a finding says, in words.
+//! The sentences of findings.
 
 use crate::page::push_ending;
 use crate::view::View;

@@ -1,4 +1,4 @@
-//! Whether a ledger tells the sizes of frames.
+//! The ledgers that tell the sizes of frames, by their tables.
 
 use vl_config::Config;
 

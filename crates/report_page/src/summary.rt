@@ -225,6 +225,7 @@ pub fn summary_of(alloc: Global, shown: &Shown<'_>) -> Result<String, AllocError
     let view = View::new(alloc, shown)?;
     let mut page = Page::plain(alloc);
     push_head(&mut page, &view);
+    page.text(view.transit.unwrap_or(""));
     if let Some(before) = View::of_baseline(alloc, shown)? {
         push_revisions(&mut page, view.config, before.config);
         push_comparison(&mut page, &view);

@@ -35,7 +35,7 @@ $notice$ with a notice &#183; $silent$ never seen &#183; $clean$ clean</p></div>
 <p class=\"sub\">silent A $silent_a$ B $silent_b$ </p></div></div>\
 <section><h2>What to look at first</h2><ol class=\"find\">@findings@</section>\
 <section class=\"tl\"><h2>Timeline <small>a column is $column$; each row has its own scale</small></h2>\
-@timeline@</section>\
+@timeline@</section>@transit@\
 <section><h2>Links, worst first <small>$trouble$ in trouble \
 (as the worst finding that names the link says), \
 $notice$ with a notice, $silent$ never seen, $clean$ clean</small></h2>@links@</section>\

@@ -1,4 +1,4 @@
-//! What the page's parts share.
+//! The view that the page's parts share.
 
 use crate::numbers::{MINUTE, quotient};
 use crate::ranks::{LEVELS, Rank, ranks_of};
@@ -102,6 +102,8 @@ pub struct Shown<'a> {
     pub partial: bool,
     /// The least level of the findings that it fails on, if it does.
     pub fail_on: Option<Level>,
+    /// The section on a ledger of transits, in the form of what is written, if there is one.
+    pub transit: Option<&'a str>,
 }
 
 /// How many bins a report uses.
@@ -131,6 +133,7 @@ pub struct View<'a> {
     pub title: &'a str,
     pub zoom: Zoom<'a>,
     pub fail_on: Option<Level>,
+    pub transit: Option<&'a str>,
 }
 
 /// The path of a recording; the name of none where it isn't known.
@@ -162,6 +165,7 @@ impl<'a> View<'a> {
             network,
             partial,
             fail_on,
+            transit,
         } = *shown;
         let zoom = Zoom {
             from,
@@ -185,6 +189,7 @@ impl<'a> View<'a> {
             title,
             zoom,
             fail_on,
+            transit,
         })
     }
 

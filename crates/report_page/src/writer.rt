@@ -1,4 +1,4 @@
-//! What a page is written with.
+//! The writer of a page.
 
 use crate::numbers::{MINUTE, SECOND, quotient, rounded, share};
 use afdx_frame::Network;

@@ -1,4 +1,4 @@
--- What was written of texts that follow one another.
+-- The bytes that were written of texts that follow one another.
 use Rattle.std.proofs.Common.{◌≡◌, ℕ, suc, ◌+◌, List, [], ◌∷◌, ◌++◌, length, take, Option, sym, subst, ap, ◌∙◌, arith}
 use Rattle.std.proofs.lemmas.List.{length-append, take-append-le}
 use Rattle.std.proofs.KnownBytes.{Appends-trans}

@@ -1,4 +1,4 @@
--- What a run sees of its devices, and what it wrote to them (this project's profile).
+-- A run's devices as it sees them, and what it wrote to them (this project's profile).
 use Rattle.std.specs.Prelude.{ℕ, List, take, Option}
 use Rattle.std.specs.Io.KnownBytes.{Appends}
 use Rattle.pcap_io.specs.declared.told.Told.{Told}

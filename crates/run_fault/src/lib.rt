@@ -1,4 +1,4 @@
-//! What runs over recordings have in common: why one was aborted, and what was given back with the fault.
+//! The faults of runs over recordings: why one was aborted, and what was given back with the fault.
 //! The definitions of `specs/` say how far a recording was read, and what a run sees of its devices.
 #![tactic(auto)]
 

@@ -54,9 +54,9 @@ IsFirstFilterFault number (text ∷ texts) f =
 -- Of the text of the command line's filter and those of the table's, numbered from 1, the first fault. Where the command line's is a
 -- filter, there may be no memory for the list.
 abbrev pub IsFiltersFault : List ℕ → List (List ℕ) → Fault → Type 0
-IsFiltersFault text texts (fault.Watch watch.Memory) = (p : List Packed) × IsFilter text p
 IsFiltersFault text texts f =
-    IsFilterFault text None f ⊎ (((p : List Packed) × IsFilter text p) × IsFirstFilterFault 1 texts f)
+    IsFilterFault text None f
+    ⊎ (((p : List Packed) × IsFilter text p) × ((f ≡ fault.Watch watch.Memory) ⊎ IsFirstFilterFault 1 texts f))
 
 -- ---- texts of files
 

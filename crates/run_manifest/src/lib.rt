@@ -1,4 +1,4 @@
-//! What a run was of, and what it wrote: the manifest beside a ledger (docs/FORMATS.md).
+//! The manifest beside a ledger: what a run was of, and what it wrote (docs/FORMATS.md).
 //!
 //! - [`Digesting`] stands before a reader or a writer: it counts the bytes that pass, and may hash them.
 //! - [`Manifest`] has a run's facts. [`manifest_text`] writes them as JSON, [`read_manifest`] reads them.

@@ -13,7 +13,7 @@ use std::fmt::Write;
 /// The version of the format, which its first member has.
 pub const MANIFEST_VERSION: u32 = 1;
 
-/// What a run of `watch` was of, and what it wrote.
+/// The manifest of a run of `watch`: what the run was of, and what it wrote.
 #[derive(Drop, Serialize, Deserialize)]
 pub struct Manifest {
     /// [`MANIFEST_VERSION`].
@@ -36,7 +36,7 @@ pub struct Program {
     pub commit: String,
 }
 
-/// What the run read. A file that wasn't given is left out.
+/// The files that the run read. One that wasn't given is left out.
 #[derive(Drop, Serialize, Deserialize)]
 pub struct Inputs {
     pub config: FileRecord,
@@ -45,7 +45,7 @@ pub struct Inputs {
     pub b: Option<RecordingRecord>,
 }
 
-/// What the run wrote.
+/// The files that the run wrote.
 #[derive(Drop, Serialize, Deserialize)]
 pub struct Outputs {
     pub capture: Option<FileRecord>,

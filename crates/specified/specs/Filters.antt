@@ -1,4 +1,4 @@
--- What filters say of a round of frames (this project's profile).
+-- The word of filters on a round of frames (this project's profile).
 use Rattle.std.specs.Prelude.{List, map}
 use Rattle.afdx_frame.specs.Frame.{Frame}
 use Rattle.bpf_isa.specs.declared.packed.Packed.{Packed}

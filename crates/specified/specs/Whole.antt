@@ -1,4 +1,4 @@
--- What whole commands leave, by the texts that they are given and what their devices show (this project's profile).
+-- Whole commands: what they leave, by the texts that they are given and what their devices show (this project's profile).
 use Rattle.std.specs.Prelude.{◌≡◌, ℕ, List, Option, None, Result, Ok, Err}
 use Rattle.afdx_frame.specs.Frame.{Frame}
 use Rattle.bpf_isa.specs.declared.packed.Packed.{Packed}

@@ -1,4 +1,4 @@
-//! What no program runs: calls whose contracts say of the crates below what the program's own don't.
+//! Calls that no program runs, whose contracts say of the crates below what the program's own don't.
 //!
 //! [`Core`] is a model of a run on threads, over events: it says what holds for every interleaving
 //! ([`every_run_is_in_order`]). [`judge_round`] and [`filter_round`] say of a whole round what the program

@@ -1,4 +1,4 @@
-//! Whether frames are a tap's recording.
+//! The test whether frames are a tap's recording.
 ghost use Rattle.std.specs.Prelude.{◌≡◌, ◌+◌, ◌≤◌, IsTrue, ◌↔◌};
 ghost use Rattle.std.specs.Option.{ForSome};
 ghost use Rattle.ordered_merge.specs.Merge.{highest};

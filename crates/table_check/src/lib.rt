@@ -1,4 +1,4 @@
-//! What is wrong with a table of virtual links, for a person who mends it: [`vl_config::Config::read`] gives
+//! The faults of a table of virtual links, for a person who mends it: [`vl_config::Config::read`] gives
 //! the first fault alone.
 //!
 //! - [`table_faults`] gives every fault:

@@ -1,4 +1,4 @@
-//! What is wrong with a table, in words: which key of which link, what stands there and what is allowed.
+//! The fault of a table in words: which key of which link, what stands there and what is allowed.
 
 use crate::scan::{key_offset, link_offset};
 use std::alloc::{AllocError, Global};

@@ -1,4 +1,4 @@
-//! Whether the table that a draft's text is read back as is the one that the draft says.
+//! The check of a draft: the table that its text is read back as is the one that the draft says.
 
 ghost use Rattle.std.specs.Prelude.{◌≡◌, ◌*◌, true};
 ghost use Rattle.table_draft.specs.Drafts.{AreLinksOf, HasValues, IsLinkOf, IsTableOf};

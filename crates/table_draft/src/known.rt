@@ -1,4 +1,4 @@
-//! What is known of a link: what a document specifies, what was seen, and which of both a draft has.
+//! The knowledge of a link: what a document specifies, what was seen, and which of both a draft has.
 
 use crate::estimate::{Estimate, greatest_size, jitter_us, skew_us};
 use afdx_frame::VlId;

@@ -24,6 +24,8 @@ mod seams;
 mod streams;
 mod taps;
 mod texts;
+mod torn;
+mod whole;
 
 pub use blocks::{BLOCK, Blocks, LiveInput, SharedBlocks};
 pub use disorder::{Amount, Disorder};

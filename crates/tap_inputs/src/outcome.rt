@@ -54,6 +54,8 @@ pub enum Detail {
     Listed(String),
     /// The fault of a standard stream or a pipe.
     Stream(String),
+    /// The reason why standard input is no text.
+    Text(String),
     /// How a line of a ledger and the table differ on a link.
     Disputed(String),
 }

@@ -1,12 +1,13 @@
-//! What a person at a terminal sees of the reading: how far it is, on one line that is written over, and
+//! The progress of the reading that a person at a terminal sees, on one line that is written over, and
 //! gone at the end.
 use crate::blocks::LiveInput;
 use crate::recordings::Reading;
 use crate::taps::Tap;
+use crate::whole::WholePackets;
 use afdx_frame::Network;
 use run_manifest::{Digesting, Sum};
 use std::fmt::{Display, Formatter};
-use std::io::{IsTerminal, Read};
+use std::io::{ErrorKind, IsTerminal, Read};
 use std::sync::atomic::{AtomicU64, Ordering};
 use std::time::Instant;
 use std::{fmt, io};
@@ -170,6 +171,8 @@ pub struct Recording<'p> {
     place: (&'p Tap, usize),
     head: [u8; FORMAT_LEN],
     kept: usize,
+    /// Its whole packets alone, where the next file goes on behind them.
+    whole: Option<WholePackets>,
 }
 
 impl<'p> Recording<'p> {
@@ -181,6 +184,7 @@ impl<'p> Recording<'p> {
             place,
             head: [0; FORMAT_LEN],
             kept: 0,
+            whole: whole_of(reading, place),
         }
     }
 
@@ -224,8 +228,60 @@ impl<'p> Recording<'p> {
     }
 }
 
-impl Read for Recording<'_> {
-    fn read(&mut self, buf: &mut [u8]) -> io::Result<usize> {
+/// The whole packets of a file that another follows, where a recording goes on behind a torn one.
+fn whole_of(reading: Reading<'_>, (tap, number): (&Tap, usize)) -> Option<WholePackets> {
+    if reading.resumes && number.saturating_add(1) < tap.files.len() {
+        Some(WholePackets::new(reading.rt.alloc()))
+    } else {
+        None
+    }
+}
+
+/// A packet has fewer bytes: so many reads of a byte end it.
+const MAX_READS: u64 = 1 << 21;
+
+impl Recording<'_> {
+    /// Takes what was read, or notes how the file ended. True if that is so.
+    fn add_read(&mut self, bytes: &[u8]) -> io::Result<bool> {
+        let (tap, number) = self.place;
+        let Some(whole) = &mut self.whole else {
+            return Ok(true);
+        };
+        if !bytes.is_empty() {
+            if whole.take(bytes).is_err() {
+                return Err(io::Error::from(ErrorKind::OutOfMemory));
+            }
+            return Ok(false);
+        }
+        if let Some(torn) = whole.torn() {
+            tap.note_torn(number, torn);
+        }
+        Ok(true)
+    }
+
+    /// Gives whole packets, as many bytes of them as fit.
+    fn give_whole(&mut self, buf: &mut [u8]) -> Option<usize> {
+        let whole = self.whole.as_mut()?;
+        let count = whole.give(buf);
+        if count > 0 { Some(count) } else { None }
+    }
+
+    /// Reads on to the end of the next packet, and gives it.
+    fn read_whole(&mut self, buf: &mut [u8]) -> io::Result<usize> {
+        for _read in 0..MAX_READS {
+            if let Some(count) = self.give_whole(buf) {
+                return Ok(count);
+            }
+            let count = self.read_on(buf)?;
+            if self.add_read(buf.get(..count).unwrap_or(&[]))? {
+                break;
+            }
+        }
+        Ok(0)
+    }
+
+    /// Reads the file's next bytes.
+    fn read_on(&mut self, buf: &mut [u8]) -> io::Result<usize> {
         self.note_begin();
         let read = self.input.read(buf);
         self.note_end(!matches!(read, Ok(1..)));
@@ -241,5 +297,17 @@ impl Read for Recording<'_> {
             progress.add_bytes(rt, network, bytes.len() as u64);
         }
         Ok(count)
+    }
+}
+
+impl Read for Recording<'_> {
+    fn read(&mut self, buf: &mut [u8]) -> io::Result<usize> {
+        let most = buf.len();
+        let count = if self.whole.is_some() {
+            self.read_whole(buf)?
+        } else {
+            self.read_on(buf)?
+        };
+        Ok(count.min(most))
     }
 }

@@ -1,4 +1,4 @@
-//! What a command reads of a recording: of one file its bytes, and of several those of one after another.
+//! The bytes that a command reads of a recording: of one file its own, of several those of one after another.
 ghost use Rattle.std.specs.Prelude.{IfOk, None, OnErr, OnOk};
 ghost use Rattle.pcap_io.specs.Device.{CountsFailure, NoFailure};
 ghost use Rattle.pcap_io.specs.declared.told.Told.TheVariants.{Nothing};
@@ -20,7 +20,7 @@ use run_manifest::Sum;
 use std::alloc::AllocError;
 use traffic_survey::Format;
 
-/// Who is told of the reading of a recording.
+/// The receivers of news of the reading of a recording.
 #[derive(Clone, Copy)]
 pub struct Reading<'p> {
     pub rt: &'p HostRuntime,
@@ -29,6 +29,8 @@ pub struct Reading<'p> {
     pub hashed: bool,
     pub progress: Option<&'p Progress>,
     pub pauses: Option<&'p Pauses>,
+    /// Does the recording go on with its next file behind one that ends within a packet, or is damaged?
+    pub resumes: bool,
 }
 
 impl<'p> Reading<'p> {
@@ -40,6 +42,7 @@ impl<'p> Reading<'p> {
             hashed: false,
             progress: None,
             pauses: None,
+            resumes: false,
         }
     }
 }

@@ -1,4 +1,4 @@
-//! What the program reads and writes: files, the standard streams, and what stands in the place of a file
+//! The inputs and outputs of the program: files, the standard streams, and what stands in the place of a file
 //! that isn't named.
 use crate::limits::{Limited, standard_output};
 use std::fs::{File, Metadata, OpenOptions};

@@ -3,10 +3,13 @@ use crate::interface::{chosen_in, refused_interfaces, start_of};
 use crate::outcome::{Cause, Detail, Outcome};
 use crate::streams::Input;
 use crate::texts::text_in;
+use crate::torn::TornFiles;
+use crate::whole::Torn;
 use afdx_frame::Network;
 use command_line::{
     BETWEEN_FILES, CaptureArguments, CheckArguments, CutArguments, DebugArguments, Fault,
-    FileOption, Inode, Invocation, LinksArguments, TransitArguments, WatchArguments, is_standard,
+    FileOption, Inode, Invocation, LinksArguments, TransitArguments, TransitCutArguments,
+    WatchArguments, is_standard,
 };
 use pcap_io::{Found, ReadSource, TapReader, TapSource};
 use pcapng::Choice;
@@ -40,6 +43,8 @@ pub struct Tap {
     pub lists: Vec<String>,
     /// The failure that the thread met which reads it, for the one that tells of it.
     failure: Mutex<Option<TapFailure>>,
+    /// The files that are torn, which that thread found.
+    torn: Mutex<TornFiles>,
 }
 
 /// The recordings of a command: that of network A, or its one recording, and that of network B.
@@ -65,6 +70,7 @@ fn recordings_of<'a>(command: Invocation<'a>) -> (Option<&'a str>, Option<&'a st
         Invocation::Debug(given) => (Some(given.tap), None),
         Invocation::Watch(given) => (given.a, given.b),
         Invocation::Cut(given) => (given.a, given.b),
+        Invocation::TransitCut(given) => (given.before, given.after),
         Invocation::Links(given) => (given.a, given.b),
         Invocation::Check(given) => (given.a, given.b),
         Invocation::Transit(given) => (Some(given.before), Some(given.after)),
@@ -77,8 +83,8 @@ pub fn option_of(command: Invocation<'_>, network: Network) -> FileOption {
     match (command, network) {
         (Invocation::Capture(_), _) => FileOption::Recording,
         (Invocation::Debug(_), _) => FileOption::Tap,
-        (Invocation::Transit(_), Network::A) => FileOption::Before,
-        (Invocation::Transit(_), Network::B) => FileOption::After,
+        (Invocation::Transit(_) | Invocation::TransitCut(_), Network::A) => FileOption::Before,
+        (Invocation::Transit(_) | Invocation::TransitCut(_), Network::B) => FileOption::After,
         (_, Network::A) => FileOption::A,
         (_, Network::B) => FileOption::B,
     }
@@ -92,6 +98,7 @@ impl Tap {
             files: Vec::new(rt.alloc()),
             lists: Vec::new(rt.alloc()),
             failure: Mutex::new(None),
+            torn: Mutex::new(TornFiles::none()),
         };
         let Some(words) = words else {
             return Ok(tap);
@@ -155,6 +162,21 @@ impl Tap {
         match self.failure.try_lock() {
             Some(noted) => *noted,
             None => None,
+        }
+    }
+
+    /// Notes that the file of this number is torn.
+    pub(crate) fn note_torn(&self, number: usize, torn: Torn) {
+        if let Some(mut noted) = self.torn.try_lock() {
+            noted.add(number, torn);
+        }
+    }
+
+    /// The files that are torn.
+    pub(crate) fn torn(&self) -> TornFiles {
+        match self.torn.try_lock() {
+            Some(noted) => *noted,
+            None => TornFiles::none(),
         }
     }
 
@@ -252,6 +274,11 @@ impl Taps {
             Invocation::Transit(given) => Invocation::Transit(TransitArguments {
                 before: a.unwrap_or(given.before),
                 after: b.unwrap_or(given.after),
+                ..given
+            }),
+            Invocation::TransitCut(given) => Invocation::TransitCut(TransitCutArguments {
+                before: a,
+                after: b,
                 ..given
             }),
             Invocation::Asm | Invocation::Report(_) => command,

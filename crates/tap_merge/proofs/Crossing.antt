@@ -1,4 +1,4 @@
--- What a tap's thread waits at may go to it.
+-- The place that a tap's thread waits at may go to it.
 use denote.RattleType.{RattleType}
 use denote.Enum.Declared as enum
 use denote.Param.Send.{Frees, IsSend, enum_send, recorded_send, sendable, struct_send}

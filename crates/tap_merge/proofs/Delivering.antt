@@ -1,4 +1,4 @@
--- What is delivered to a tap's thread is what was promised.
+-- A tap's thread is delivered what was promised.
 use Rattle.std.proofs.Common.{◌≡◌, List, [], ◌∷◌, IfSome, Option, Some, None, sym, ◌∙◌}
 use Rattle.pcap_io.specs.declared.reader.TapReader.{TapReader}
 use Rattle.tap_queue.specs.declared.ring.TapPut.{TapPut}

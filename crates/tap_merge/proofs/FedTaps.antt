@@ -1,4 +1,4 @@
--- What a thread has read of a recording, by the items that it put.
+-- The items that a thread has put, and what it has read of a recording by them.
 use Rattle.std.proofs.Common.{◌≡◌, inl, inr, ◌++◌, ◌∷◌, [], ℕ, List, Some, None, true, false, refl, sym, subst, ap, ◌∙◌, append-nil, append_assoc}
 use Rattle.std.proofs.lemmas.Bool.{false≢true}
 use Rattle.afdx_frame.specs.Frame.{Frame}

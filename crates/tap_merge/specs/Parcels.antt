@@ -1,4 +1,4 @@
--- What goes to a tap's thread.
+-- The parcel that goes to a tap's thread.
 use Rattle.std.specs.Prelude.{◌≡◌, List, [], ◌∷◌}
 use Rattle.pcap_io.specs.declared.reader.TapReader.{TapReader}
 use Rattle.tap_queue.specs.Ring.{put_items}

@@ -56,7 +56,7 @@ Merges network (Some ending) old new m m' =
     Ends old.position old.told old.remaining new.remaining ending × (new.position ≡ record old.position { stage = Ended ending })
     × (m' ≡ ended m network)
 
--- What comes next of a reader wasn't merged: the source failed, or there was no memory for a frame, or for the places of frames in
+-- The next item of a reader wasn't merged: the source failed, or there was no memory for a frame, or for the places of frames in
 -- the merger, which may have some of them.
 abbrev pub MergesNot : Network → WatchFault → Reading → Reading → MergerState → Type 0
 MergesNot network (watch.Read failed) old new m =
@@ -83,7 +83,7 @@ pub record HasRead (network : Network) (late : ℕ) (before : SourceView) (frame
   pub stands : StandsAt end position told left reading
   pub failures : reading.failures ≡ before.failures
 
--- What was read of both sources, merged and cut: these frames of each, and of them these in order.
+-- The frames that were read of both sources, merged and cut: these of each, and of them these in order.
 pub record HasMerged {S T : Type 0} (s : SourceMembers S) (t : SourceMembers T)
     (late : ℕ) (a b : SourceView) (frames_a frames_b cut : List Frame) (taps : Taps S T) : Type 0 where
   pub read_a : HasRead A late a frames_a taps.end_a (reading_of s.remaining s.failures s.told taps.a)

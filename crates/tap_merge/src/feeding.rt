@@ -1,4 +1,4 @@
-//! What is promised of a tap that is read into a ring.
+//! The promise of a tap that is read into a ring.
 ghost use Rattle.std.specs.Prelude.{◌≡◌};
 ghost use Rattle.tap_merge.specs.Reads.{IsReadInto};
 

@@ -164,7 +164,7 @@ impl Rings {
                 return Ok(false);
             }
             let pending = self.merger.count_pending();
-            // What is safe is given before this thread waits.
+            // Safe frames are given before this thread waits.
             if !self.is_ready() || is_enough(most, before, last, pending) {
                 break;
             }

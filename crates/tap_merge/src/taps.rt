@@ -247,7 +247,7 @@ impl<S: TapSource, T: TapSource> Taps<S, T> {
             (reading_of S.remaining S.failures S.told self.new.a)
             (reading_of T.remaining T.failures T.told self.new.b)) }
     {
-        // What came together may be several rounds.
+        // Frames that came together may be several rounds.
         if !self.merger.has_round(1) {
             if !self.merge_one(alloc, most.get())? {
                 return Ok(None);

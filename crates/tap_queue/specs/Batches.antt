@@ -35,7 +35,7 @@ AreNextItems network late before (Frames batch) = (is_over before ≡ false) × 
 AreNextItems network late before (End e) = is_over before ≡ false
 AreNextItems network late before (Failed fault) = is_over before ≡ false
 
--- What was given together after these items was lost: nothing more was taken, or what may not follow them.
+-- The loss of what was given together after these items: nothing more was taken, or what may not follow them.
 abbrev pub IsBatchLoss : Network → ℕ → List TapItem → List TapItem → Type 0
 IsBatchLoss network late before after =
     (after ≡ before) ⊎ ((taken : TapBatch) × (after ≡ before ++ items_of taken) × ¬ AreNextItems network late before taken)

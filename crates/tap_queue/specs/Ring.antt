@@ -1,4 +1,4 @@
--- What contracts see of a ring's two ends.
+-- A ring's two ends, as contracts see them.
 use Rattle.std.specs.Prelude.{◌≡◌, ◌<◌, ◌++◌, [], ◌∷◌, ℕ, Bool, false, List}
 use Rattle.rtrb.specs.Ring.{IsPair, SameConsumer, SameProducer, known_free, received, sent}
 use Rattle.afdx_frame.specs.declared.key.Network.{Network}

@@ -77,7 +77,7 @@ pub fn feed<R: Wait, S: TapSource, G: TapGate>(
     unreachable!()
 }
 
-/// What the reader gives next: frames, at most so many, or the ending or a fault. Whether nothing follows it.
+/// The reader's next batch: frames, at most so many, or the ending or a fault; and true if it is the last.
 fn next_batch<S: TapSource>(alloc: Global, reader: &mut TapReader<S>, most: usize) -> (Batch, bool)
     ensures given { Gives (reading_of S.remaining S.failures S.told reader.old) (batch_items result.0)
         (reading_of S.remaining S.failures S.told reader.new) }

@@ -1,4 +1,4 @@
-//! What goes through a ring, and what is taken of it.
+//! The items that go through a ring, one by one or in batches.
 ghost use Rattle.std.specs.Prelude.{◌≡◌, ◌<◌, length};
 ghost use Rattle.tap_queue.specs.Items.{is_over, items_of};
 

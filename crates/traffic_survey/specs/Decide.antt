@@ -1,4 +1,4 @@
--- Whether so many of all frames are nearly all of them (this project's profile).
+-- Nearly all: so many of all frames are nearly all of them (this project's profile).
 use Rattle.std.specs.Prelude.{ℕ, ◌-◌, ◌/◌, Bool, ◌&&◌, nat_lt, nat_le}
 
 -- nine in ten; of no frame none are

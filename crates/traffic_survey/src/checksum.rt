@@ -1,4 +1,4 @@
-//! Whether a frame's bytes end with its frame check sequence, which recordings of AFDX are not to hold.
+//! The frame check sequence at the end of a frame's bytes, which recordings of AFDX are not to hold.
 
 /// The polynomial of Ethernet's check (IEEE 802.3), least significant bit first.
 const POLYNOMIAL: u32 = 0xedb8_8320;

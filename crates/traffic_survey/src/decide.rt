@@ -1,4 +1,4 @@
-//! What numbers of two recordings say of them. Each is a function of counts alone.
+//! Decisions on two recordings by their numbers. Each is a function of counts alone.
 
 ghost use Rattle.std.specs.Prelude.{◌≡◌};
 ghost use Rattle.traffic_survey.specs.Decide.{is_nearly_all};

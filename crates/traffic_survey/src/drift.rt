@@ -1,4 +1,4 @@
-//! Whether the clocks of two taps move apart.
+//! The drift of two taps' clocks, which move apart.
 
 use crate::clocks::Meeting;
 use crate::decide::is_nearly_all;

@@ -18,7 +18,7 @@ pub struct Kind {
 /// Frames by EtherType.
 #[derive(Drop)]
 pub struct Kinds {
-    /// Those that are expected.
+    /// The expected ones.
     expected: Vec<Kind>,
     kinds: Vec<Kind>,
     others: u64,

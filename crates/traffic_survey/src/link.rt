@@ -1,4 +1,4 @@
-//! What is counted of a link of the table.
+//! The counts of a link of the table.
 
 ghost use Rattle.std.specs.Prelude.{◌≤◌};
 

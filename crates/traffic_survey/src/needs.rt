@@ -1,4 +1,4 @@
-//! What a link needs at each BAG.
+//! The needs of a link at each BAG.
 
 use crate::need::Need;
 use afdx_frame::Stamp;

@@ -1,4 +1,4 @@
-//! Whether sequence numbers follow one another.
+//! The order of a link's sequence numbers: how many follow the one before.
 
 use integrity::{Check, Integrity};
 

@@ -1,4 +1,4 @@
-//! What is shown the frames of recordings.
+//! The observer that is shown the frames of recordings.
 
 use afdx_frame::{LentFrame, TapFrame};
 use run_fault::WatchFault;

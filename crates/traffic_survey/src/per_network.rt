@@ -1,4 +1,4 @@
-//! What there is once for each network.
+//! A value for each network.
 
 use afdx_frame::Network;
 

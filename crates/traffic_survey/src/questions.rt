@@ -1,4 +1,4 @@
-//! What looks wrong with the inputs of a run, as questions: counts can't tell a wrong input from a strange
+//! The questions on the inputs of a run that look wrong: counts can't tell a wrong input from a strange
 //! network.
 
 use crate::clocks::{Meeting, most_supported};

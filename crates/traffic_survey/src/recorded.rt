@@ -1,4 +1,4 @@
-//! What is told of a recording.
+//! A recording as it was read: how far, its ending and its span of time.
 
 use pcap_io::Ending;
 use run_fault::MAX_FRAMES;

@@ -1,4 +1,4 @@
-//! Whether a clock was set while it recorded.
+//! The steps of a clock that was set while it recorded.
 //!
 //! Where one clock goes forward, its network is silent by it, and no number is missing. A step that is
 //! shorter than links' intervals shows by the differences of both clocks, which all links tell from one

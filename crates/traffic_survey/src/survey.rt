@@ -1,4 +1,4 @@
-//! What recordings say of a network: its constant field and its links.
+//! The survey of a network by its recordings: its constant field and its links.
 
 use crate::links::Links;
 use afdx_frame::LentFrame;

@@ -1,4 +1,4 @@
-//! What is counted of one recording, whatever its links.
+//! The counts of one recording, whatever its links.
 
 use crate::checksum::ends_with_check;
 use crate::clocks::Sample;

@@ -1,4 +1,4 @@
-//! Whether a recording has frames twice, or frames of the other network.
+//! Recordings that have frames twice, or frames of the other network.
 
 use crate::clocks::Sample;
 use crate::decide::wiring_of;

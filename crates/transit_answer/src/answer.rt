@@ -1,4 +1,4 @@
-//! What the answer is made of.
+//! The answer's parts.
 
 use crate::look::Looks;
 use pcap_io::Ending;
@@ -6,7 +6,7 @@ use traffic_survey::Recorded;
 use transit_run::Pass;
 
 /// The recording at the port into the switch, and that at the port out of it.
-#[derive(Clone, Copy, Debug, PartialEq, Eq)]
+#[derive(Clone, Copy, PartialEq, Eq)]
 pub enum Side {
     Before,
     After,
@@ -30,7 +30,7 @@ impl Side {
 pub struct Answer<'a, 't> {
     /// The pass over both.
     pub pass: &'a Pass<'t>,
-    /// What was looked at beside it.
+    /// The looks at both recordings beside it.
     pub looks: &'a Looks,
     /// How the recordings were read.
     pub before: Recorded,
@@ -40,7 +40,7 @@ pub struct Answer<'a, 't> {
     pub name_after: &'a str,
     /// The letter of the network, if it is given.
     pub network: Option<&'a str>,
-    /// What was added to each timestamp of the recording at the port out, in nanoseconds.
+    /// The nanoseconds that were added to each timestamp of the recording at the port out.
     pub shift: i64,
 }
 

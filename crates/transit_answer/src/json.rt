@@ -1,7 +1,10 @@
 //! The answer as JSON.
 
+use crate::advice::QuestionAdvice;
 use crate::answer::{Answer, Side};
+use crate::notes::Note;
 use crate::questions::Question;
+use command_line::join_advice;
 use serde::Serialize;
 use serde_json::Error;
 use std::alloc::{AllocError, Global};
@@ -398,9 +401,12 @@ fn faults_of(alloc: Global, pass: &Pass<'_>) -> Result<Vec<JsonFault>, AllocErro
 
 /// A question without its numbers.
 fn plain(alloc: Global, question: &Question) -> Result<JsonQuestion, AllocError> {
+    let advice = QuestionAdvice(question).to_string(alloc)?;
+    let mut text = question.to_string(alloc)?;
+    join_advice(&mut text, &advice)?;
     Ok(JsonQuestion {
         question: question.word(),
-        text: question.to_string(alloc)?,
+        text,
         nanoseconds: None,
         at_least: None,
         shift_ns: None,
@@ -468,11 +474,22 @@ fn common_of(alloc: Global, pass: &Pass<'_>) -> Result<Option<JsonSpan>, AllocEr
     }
 }
 
+/// The notes, each with what to do in one line.
+fn texts_of(alloc: Global, notes: &[Note]) -> Result<Vec<String>, AllocError> {
+    let mut list = Vec::new(alloc);
+    for note in notes {
+        let mut text = String::from_str(alloc, &note.text)?;
+        join_advice(&mut text, &note.advice)?;
+        list.push(text)?;
+    }
+    Ok(list)
+}
+
 fn answer_of<'a>(
     alloc: Global,
     answer: &Answer<'a, '_>,
     questions: &[Question],
-    notes: Vec<String>,
+    notes: &[Note],
 ) -> Result<JsonAnswer<'a>, AllocError> {
     let pass = answer.pass;
     let options = pass.options();
@@ -501,7 +518,7 @@ fn answer_of<'a>(
         kinds: kinds_of(alloc, pass)?,
         faults: faults_of(alloc, pass)?,
         questions: questions_of(alloc, questions)?,
-        notes,
+        notes: texts_of(alloc, notes)?,
     })
 }
 
@@ -514,7 +531,7 @@ pub fn json_of(
     alloc: Global,
     answer: &Answer<'_, '_>,
     questions: &[Question],
-    notes: Vec<String>,
+    notes: &[Note],
 ) -> Result<String, Error> {
     let json = answer_of(alloc, answer, questions, notes)?;
     serde_json::to_string(alloc, &json)

@@ -1,4 +1,4 @@
-//! What is looked at in each recording beside the pass: check sequences, and the bytes of the first frames,
+//! The look at each recording beside the pass: for check sequences, and at the bytes of the first frames,
 //! by which clocks that are far apart show.
 
 use afdx_frame::{LentFrame, Network};
@@ -19,7 +19,7 @@ const PRIME: u64 = 0x0100_0000_01b3;
 /// The hash of a frame's bytes (FNV-1a), and its moment in nanoseconds.
 pub(crate) type Sample = (u64, u64);
 
-/// What is looked at in one recording.
+/// The look at one recording.
 #[derive(Drop)]
 pub(crate) struct Look {
     /// How many frames were looked at for check sequences, and how many end with theirs.
@@ -29,7 +29,7 @@ pub(crate) struct Look {
     pub(crate) samples: Vec<Sample>,
 }
 
-/// What is looked at in both recordings.
+/// The looks at both recordings.
 #[derive(Drop)]
 pub struct Looks {
     pub(crate) before: Look,

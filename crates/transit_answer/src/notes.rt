@@ -2,77 +2,107 @@
 
 use crate::answer::{Answer, Side};
 use crate::words::Counted;
-use command_line::reason_words;
+use command_line::{EndingAdvice, MAX_LATE_MICROS, reason_words};
 use pcap_io::{BadReason, Ending};
 use std::alloc::{AllocError, Global};
 use std::fmt::Write;
 use transit_run::{Fate, Origin, Pass};
 
-/// How a recording ends early.
-fn ending_note(alloc: Global, side: Side, ending: Ending) -> Result<Option<String>, AllocError> {
-    let side = side.word();
-    let mut note = String::new(alloc);
-    match ending {
-        Ending::Clean(_) => return Ok(None),
-        Ending::Cut(frames) => {
-            let frames = Counted(frames, "frame");
-            write!(
-                note,
-                "the recording of --{side} ends within a packet, after {frames}"
-            )?;
-        }
-        Ending::Bad(frames, BadReason::StampBack { by }) => {
-            let (frames, by) = (Counted(frames, "frame"), by.div_ceil(1000));
-            write!(
-                note,
-                "the recording of --{side} ends bad after {frames}: a timestamp is out of order by {by} \
-                 us (--late-us {by} takes it)"
-            )?;
-        }
-        Ending::Bad(frames, reason) => {
-            let (frames, reason) = (Counted(frames, "frame"), reason_words(reason));
-            write!(
-                note,
-                "the recording of --{side} ends bad after {frames}: {reason}"
-            )?;
-        }
-    }
-    Ok(Some(note))
+const SHORTER: &str = "Give a shorter --within-us and --early-us, as far as latencies allow it";
+
+const WHOLE: &str = "Record whole frames, by tcpdump -s 0";
+
+/// A note: what is judged less surely, and what to do.
+#[derive(Drop)]
+pub struct Note {
+    pub text: String,
+    pub advice: String,
 }
 
-/// How many frames may be one another.
-fn choice_note(alloc: Global, pass: &Pass<'_>) -> Result<Option<String>, AllocError> {
+/// Where a recording ends early, and why.
+fn write_ending(
+    note: &mut String,
+    side: Side,
+    frames: u64,
+    reason: Option<BadReason>,
+) -> Result<(), AllocError> {
+    let (side, frames) = (side.word(), Counted(frames, "frame"));
+    write!(note, "the recording of --{side} ends ")?;
+    match reason {
+        None => write!(note, "within a packet, after {frames}."),
+        Some(BadReason::StampBack { by }) => {
+            let by = by.div_ceil(1000);
+            write!(
+                note,
+                "bad after {frames}: a timestamp is out of order by {by} us."
+            )
+        }
+        Some(reason) => {
+            let reason = reason_words(reason);
+            write!(note, "bad after {frames}: {reason}.")
+        }
+    }
+}
+
+/// The advice on a recording that ends early.
+fn write_ending_advice(advice: &mut String, ending: Ending) -> Result<(), AllocError> {
+    if let Ending::Bad(_, BadReason::StampBack { by }) = ending {
+        let by = by.div_ceil(1000);
+        if by <= MAX_LATE_MICROS {
+            return write!(
+                advice,
+                "Give --late-us {by}, or sort it: reordercap in.pcap out.pcap"
+            );
+        }
+    }
+    let words = EndingAdvice(ending);
+    write!(advice, "{words}")
+}
+
+/// The note on a recording that ends early.
+fn ending_note(alloc: Global, side: Side, ending: Ending) -> Result<Option<Note>, AllocError> {
+    let reason = match ending {
+        Ending::Clean(_) => return Ok(None),
+        Ending::Cut(_) => None,
+        Ending::Bad(_, reason) => Some(reason),
+    };
+    let (mut text, mut advice) = (String::new(alloc), String::new(alloc));
+    write_ending(&mut text, side, ending.frames(), reason)?;
+    write_ending_advice(&mut advice, ending)?;
+    Ok(Some(Note { text, advice }))
+}
+
+/// The note on frames that may be one another.
+fn choice_note(alloc: Global, pass: &Pass<'_>) -> Result<Option<Note>, AllocError> {
     let choices = pass.tally().choices;
     if choices == 0 {
         return Ok(None);
     }
-    let mut note = String::new(alloc);
+    let mut text = String::new(alloc);
     let frames = Counted(choices, "frame");
     write!(
-        note,
-        "of {frames} an equal one was in the window: which is which isn't certain"
+        text,
+        "of {frames} an equal one was in the window: which is which isn't certain."
     )?;
-    Ok(Some(note))
+    let advice = String::from_str(alloc, SHORTER)?;
+    Ok(Some(Note { text, advice }))
 }
 
-/// That transits are as long as the window.
-fn window_note(alloc: Global, pass: &Pass<'_>) -> Result<Option<String>, AllocError> {
+/// The note on transits that are as long as the window.
+fn window_note(alloc: Global, pass: &Pass<'_>) -> Result<Option<Note>, AllocError> {
     let within = pass.options().within;
     let greatest = pass.latency().range.map_or(0, |range| range.1);
     if i128::from(greatest) * 10 <= i128::from(within) * 9 {
         return Ok(None);
     }
-    let mut note = String::new(alloc);
-    let micros = within / 500;
-    write!(
-        note,
-        "latencies reach the window's end: try --within-us {micros}"
-    )?;
-    Ok(Some(note))
+    let text = String::from_str(alloc, "latencies reach the window's end.")?;
+    let (mut advice, micros) = (String::new(alloc), within / 500);
+    write!(advice, "Give --within-us {micros}")?;
+    Ok(Some(Note { text, advice }))
 }
 
-/// How many frames aren't compared.
-fn cut_note(alloc: Global, pass: &Pass<'_>) -> Result<Option<String>, AllocError> {
+/// The note on frames that aren't compared.
+fn cut_note(alloc: Global, pass: &Pass<'_>) -> Result<Option<Note>, AllocError> {
     let tally = pass.tally();
     let cut = tally
         .fates(Fate::Cut)
@@ -80,13 +110,14 @@ fn cut_note(alloc: Global, pass: &Pass<'_>) -> Result<Option<String>, AllocError
     if cut == 0 {
         return Ok(None);
     }
-    let mut note = String::new(alloc);
+    let mut text = String::new(alloc);
     let frames = Counted(cut, "frame");
     write!(
-        note,
-        "{frames} cut short, not compared: as many of the dropped and the new may be none"
+        text,
+        "{frames} cut short, not compared: as many of the dropped and the new may be none."
     )?;
-    Ok(Some(note))
+    let advice = String::from_str(alloc, WHOLE)?;
+    Ok(Some(Note { text, advice }))
 }
 
 /// The notes on what is judged less surely.
@@ -94,7 +125,7 @@ fn cut_note(alloc: Global, pass: &Pass<'_>) -> Result<Option<String>, AllocError
 /// # Errors
 ///
 /// `AllocError` if the system is out of memory.
-pub fn notes_of(alloc: Global, answer: &Answer<'_, '_>) -> Result<Vec<String>, AllocError> {
+pub fn notes_of(alloc: Global, answer: &Answer<'_, '_>) -> Result<Vec<Note>, AllocError> {
     let (pass, mut notes) = (answer.pass, Vec::new(alloc));
     for side in Side::ALL {
         if let Some(note) = ending_note(alloc, side, answer.recorded(side).ending)? {

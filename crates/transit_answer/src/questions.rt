@@ -1,4 +1,4 @@
-//! What looks wrong with the recordings, as questions.
+//! The questions on recordings that look wrong.
 
 use crate::answer::{Answer, Side};
 use crate::apart::agreed_difference;
@@ -9,7 +9,7 @@ use std::fmt::{Display, Formatter};
 use transit_run::{Fate, Latency, Origin, Pass, Silence};
 
 /// A question: each is of something that looks wrong. Lengths of time are in nanoseconds.
-#[derive(Clone, Copy, Debug)]
+#[derive(Clone, Copy)]
 pub enum Question {
     /// A recording has no frame.
     Empty(Side),
@@ -105,7 +105,7 @@ fn is_reversed(latency: &Latency) -> bool {
     }
 }
 
-/// Whether the frames are those of the table, and whole.
+/// Asks whether the frames are those of the table, and whole.
 fn ask_of_frames(questions: &mut Vec<Question>, answer: &Answer<'_, '_>) -> Result<(), AllocError> {
     let (pass, looks) = (answer.pass, answer.looks);
     let (before, after) = (answer.frames(Side::Before), answer.frames(Side::After));
@@ -129,7 +129,7 @@ fn ask_of_frames(questions: &mut Vec<Question>, answer: &Answer<'_, '_>) -> Resu
     Ok(())
 }
 
-/// Whether a recording has its frames twice.
+/// Asks whether a recording has its frames twice.
 fn ask_of_copies(questions: &mut Vec<Question>, answer: &Answer<'_, '_>) -> Result<(), AllocError> {
     let tally = answer.pass.tally();
     if tally.choices.saturating_mul(4) > answer.frames(Side::Before) {
@@ -269,27 +269,32 @@ impl Question {
     }
 }
 
-const CONSTANT: &str = "is the table's 'constant' that of this network?";
+const CONSTANT: &str = "\
+is the table's 'constant' that of this network? Nine frames in ten have another.";
 
-const OTHER_TABLE: &str = "is the table that of another aircraft?";
+const OTHER_TABLE: &str = "\
+is the table that of another aircraft? It lacks the links of more than half of the frames.";
 
-const SWAPPED: &str = "are --before and --after swapped?";
+const SWAPPED: &str = "\
+are --before and --after swapped? All frames come out before they go in.";
 
-const SAME_RECORDING: &str = "are --before and --after one recording?";
+const SAME_RECORDING: &str = "are --before and --after one recording? All latencies are 0.";
 
 const TWICE_BEFORE: &str = "\
-does the recording of --before hold its frames twice? editcap -d takes the second ones out";
+does the recording of --before hold its frames twice? More than a quarter have an equal one.";
 
-const TWICE_AFTER: &str = "does the recording of --after hold its frames twice, or two ports?";
+const TWICE_AFTER: &str = "\
+does the recording of --after hold its frames twice, or two ports? More than a quarter came out before.";
 
-const APART: &str = "do the recordings belong together? They have no common time";
+const APART: &str = "do the recordings belong together? They have no common time.";
 
-const OTHER_PORT: &str = "is --after of another port? None of its frames went in";
+const OTHER_PORT: &str = "is --after of another port? None of its frames went in.";
 
-const TWO_NETWORKS: &str = "are --before and --after of two networks?";
+const TWO_NETWORKS: &str = "\
+are --before and --after of two networks? Most frames differ in the byte that names it.";
 
 const REWRITTEN: &str = "\
-does the switch rewrite frames, or are they of two flights? More than half came out changed";
+does the switch rewrite frames, or are they of two flights? More than half came out changed.";
 
 /// The words of a question about the clocks.
 fn write_clocks<W: fmt::Write>(question: &Question, f: &mut Formatter<W>) -> fmt::Result {
@@ -300,41 +305,40 @@ fn write_clocks<W: fmt::Write>(question: &Question, f: &mut Formatter<W>) -> fmt
             let (whole, tenth) = (size / 1000, size % 1000 / 100);
             write!(
                 f,
-                "do the clocks drift? The least latency {way} by {whole}.{tenth} us a second"
+                "do the clocks drift? The least latency {way} by {whole}.{tenth} us a second."
             )
         }
-        Question::ClocksOrSwapped { least, shift } => {
+        Question::ClocksOrSwapped { least, .. } => {
             let apart = Length(least.saturating_neg());
             write!(
                 f,
                 "are the clocks apart, or --before and --after swapped? Frames come out up to {apart} \
-                 before they go in: --shift-ns {shift} has the fastest come out at once"
+                 before they go in."
             )
         }
         Question::ClocksApart {
             least,
-            shift,
             negative,
             of,
+            ..
         } => {
             let apart = Length(least.saturating_neg());
             write!(
                 f,
                 "are the clocks apart by {apart} or more? {negative} frames of {of} come out before \
-                 they go in: --shift-ns {shift} has the fastest come out at once"
+                 they go in."
             )
         }
         Question::ClocksFar {
             apart,
-            shift,
             frames,
             of,
+            ..
         } => {
             let apart = length_of(apart.unsigned_abs());
             write!(
                 f,
-                "are the clocks apart by {apart}? {frames} of {of} frames agree on it: --shift-ns \
-                 {shift} has the fastest come out at once"
+                "are the clocks apart by {apart}? {frames} of {of} frames agree on it."
             )
         }
         _ => Ok(()),
@@ -353,7 +357,7 @@ fn write_silence<W: fmt::Write>(side: Side, silence: Silence, f: &mut Formatter<
     write!(
         f,
         "did the recorder of --{option} lose frames? For {lasted} nothing {what}: {frames} frames of \
-         {links}"
+         {links}."
     )
 }
 
@@ -364,22 +368,21 @@ impl Display for Question {
                 let side = side.word();
                 write!(
                     f,
-                    "was the recording {side} the switch made? It has no frame"
+                    "was the recording {side} the switch made? It has no frame."
                 )
             }
             Question::Cut(side) => {
                 let side = side.word();
                 write!(
                     f,
-                    "does the recorder of --{side} cut frames? tcpdump -s 0 takes whole ones"
+                    "does the recorder of --{side} cut frames? More than one in a hundred is cut short."
                 )
             }
             Question::CheckSequence(side) => {
                 let side = side.word();
                 write!(
                     f,
-                    "does the recording of --{side} hold frame check sequences? editcap -L -C -4 takes \
-                     them off"
+                    "does the recording of --{side} hold frame check sequences?"
                 )
             }
             Question::Constant => f.write_str(CONSTANT),
@@ -393,11 +396,11 @@ impl Display for Question {
             Question::TwoNetworks => f.write_str(TWO_NETWORKS),
             Question::Rewritten => f.write_str(REWRITTEN),
             Question::Window { within } => {
-                let (longest, micros) = (length_of(within), within / 100);
+                let longest = length_of(within);
                 write!(
                     f,
-                    "are latencies above {longest}? Many frames in a row never came out, and many that \
-                     never went in: --within-us {micros}"
+                    "are latencies above {longest}? Many frames in a row never came out, and many never \
+                     went in."
                 )
             }
             Question::Silence(side, silence) => write_silence(side, silence, f),

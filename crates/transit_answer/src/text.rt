@@ -1,9 +1,12 @@
-//! The answer as text, for a person: at most some thirty lines of 80 columns.
+//! The answer as text, for a person: at most some thirty lines of 80 columns; those of advice have up to 100.
 
+use crate::advice::QuestionAdvice;
 use crate::answer::{Answer, Side};
 use crate::bars::push_bars;
+use crate::notes::Note;
 use crate::questions::Question;
 use crate::words::{Counted, Length, Utc, length_of};
+use command_line::{push_advice, push_wrapped};
 use std::alloc::{AllocError, Global};
 use std::fmt::Write;
 use transit_run::{Fate, Kind, KindTally, Latency, LinkTransits, Origin, Pass};
@@ -23,31 +26,6 @@ const FAULTS_HEAD: &str = "fault        frames        first    most in a second 
 
 /// A second, in nanoseconds.
 const SECOND: u64 = 1_000_000_000;
-
-/// Appends a line, set in by so many blanks, in pieces of at most 80 columns, broken at blanks; each but the
-/// first is set in by two.
-fn push_wrapped(out: &mut String, first: usize, line: &str) -> Result<(), AllocError> {
-    for _ in 0..first {
-        out.push_str(" ")?;
-    }
-    let mut column = first;
-    let mut is_first = true;
-    for word in line.split(' ') {
-        let len = word.chars().count();
-        if !is_first && column.saturating_add(len) >= COLUMNS {
-            out.push_str("\n ")?;
-            column = 1;
-        }
-        if !is_first {
-            out.push_str(" ")?;
-            column = column.saturating_add(1);
-        }
-        is_first = false;
-        out.push_str(word)?;
-        column = column.saturating_add(len);
-    }
-    out.push_str("\n")
-}
 
 /// How many links have frames of a fate, by a count of each.
 fn links_with(pass: &Pass<'_>, fate: Fate) -> u64 {
@@ -123,7 +101,7 @@ fn push_right(out: &mut String, alloc: Global, pass: &Pass<'_>) -> Result<(), Al
     if cut > 0 {
         write!(line, "; {cut} cut short, not judged")?;
     }
-    push_wrapped(out, 2, &line)
+    push_wrapped(out, COLUMNS, 2, &line)
 }
 
 /// The name of a link in a row of faults.
@@ -277,22 +255,25 @@ fn push_slowest(out: &mut String, alloc: Global, pass: &Pass<'_>) -> Result<(), 
     Ok(())
 }
 
-/// Appends the notes and the questions, and whether the answer is sound.
+/// Appends the notes and the questions, with what to do below each, and whether the answer is sound.
 fn push_end(
     out: &mut String,
     alloc: Global,
     questions: &[Question],
-    notes: &[String],
+    notes: &[Note],
 ) -> Result<(), AllocError> {
     for note in notes {
         let mut line = String::from_str(alloc, "note: ")?;
-        line.push_str(note)?;
-        push_wrapped(out, 0, &line)?;
+        line.push_str(&note.text)?;
+        push_wrapped(out, COLUMNS, 0, &line)?;
+        push_advice(out, &note.advice)?;
     }
     for question in questions {
-        let mut line = String::new(alloc);
+        let (mut line, advice) = (String::new(alloc), QuestionAdvice(question));
         write!(line, "question: {question}")?;
-        push_wrapped(out, 0, &line)?;
+        push_wrapped(out, COLUMNS, 0, &line)?;
+        let advice = advice.to_string(alloc)?;
+        push_advice(out, &advice)?;
     }
     if questions.is_empty() {
         return out.push_str("sound: yes\n");
@@ -310,7 +291,7 @@ pub fn text_of(
     alloc: Global,
     answer: &Answer<'_, '_>,
     questions: &[Question],
-    notes: &[String],
+    notes: &[Note],
 ) -> Result<String, AllocError> {
     let (pass, mut out) = (answer.pass, String::new(alloc));
     push_head(&mut out, answer)?;

@@ -16,7 +16,7 @@ const BLOCK: usize = 32768;
 /// The last timestamp of a frame, in nanoseconds.
 const LAST: u64 = (1_000_000_000 << 32) - 1;
 
-/// What a walk found of two recordings.
+/// The findings of a walk over two recordings.
 #[derive(Drop)]
 pub struct Transits<'t> {
     pub pass: Pass<'t>,
@@ -29,7 +29,7 @@ pub struct Transits<'t> {
 /// A walk that has ended, with the devices that it was given.
 #[derive(Drop)]
 pub struct WalkRun<'t, S, W> {
-    /// What was found, or why the walk was aborted: the recording at the port in is that of network A there.
+    /// The findings, or why the walk was aborted: the recording at the port in is that of network A there.
     pub outcome: Result<Transits<'t>, WatchFault>,
     /// The ledger, if one was written.
     pub ledger: Option<W>,
@@ -46,7 +46,7 @@ struct Walk<'t, W> {
     ledger: Option<W>,
     /// The ledger's first lines, until they are written: an older ledger stays where nothing is read.
     head: Option<String>,
-    /// What is added to the timestamps of the recording at the port out, in nanoseconds.
+    /// The nanoseconds that are added to the timestamps of the recording at the port out.
     shift: i64,
     /// By how much its frames are merged later: how far clocks and stamps may be off.
     early: u64,
@@ -265,7 +265,7 @@ fn begin<'t>(
     Ok((pass, head))
 }
 
-/// What a walk leaves that ended so.
+/// The run of a walk that ended so.
 fn into_run<'t, S, W>(
     walk: Walk<'t, W>,
     ended: Result<(Recorded, Recorded), WatchFault>,

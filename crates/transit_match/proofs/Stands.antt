@@ -1,4 +1,4 @@
--- What is kept stands for the frames that went in.
+-- The frames that are kept stand for those that went in.
 use Rattle.std.proofs.Common.{◌≡◌, ℕ, zero, suc, ◌-◌, ◌<◌, ◌≤◌, Bool, true, false, not, List, [], ◌∷◌, ◌++◌, Some, None, is_some, ◌||◌, Option, length, map, get_or, slice_get, set, drop, nat_le, nat_lt, cond, refl, sym, ◌∙◌, ap, subst, append_assoc, inl, inr, find, option_map, arith, ltb-true, lt-ltb, ltb-false, position}
 use Rattle.std.proofs.lemmas.Bool.{and_left, and_right, cond-true, cond-false, cases_Bool, lt-leb, false≢true}
 use Rattle.std.proofs.lemmas.List.{map-append, length-map}

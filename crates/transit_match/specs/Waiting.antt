@@ -1,4 +1,4 @@
--- What is known of the frames that went in after some that came out.
+-- The knowledge of the frames that went in after some that came out.
 use Rattle.std.specs.Prelude.{◌≡◌, ℕ, ◌-◌, ◌<◌, Bool, true, false, not, ◌&&◌, List, [], ◌∷◌, ◌++◌, map, Option, Some, None, is_some, nat_lt, cond, find}
 use Rattle.std.specs.List.{AllByRecursion}
 use Rattle.transit_match.specs.declared.waiting.Entry.{Entry}

@@ -81,7 +81,7 @@ abbrev pub AreInOrder : ℕ → List Charge → Type 0
 AreInOrder since [] = Unit {0}
 AreInOrder since (charge ∷ charges) = (since ≤ charge.stamp) × AreInOrder charge.stamp charges
 
--- What an account knows after these charges, where the link's first frame went in at `from`.
+-- The knowledge of an account after these charges, where the link's first frame went in at `from`.
 pub record StandsAfter (account : Observed) (from : ℕ) (charges : List Charge) : Type 0 where
   pub since_is : account.since ≡ since_after from charges
   pub low_is : account.low ≡ low_after account.smax account.cap 0 from charges

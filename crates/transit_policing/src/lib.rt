@@ -1,4 +1,4 @@
-//! What a switch's policing (ARINC 664 Part 7) may have done, by what came out of it.
+//! The policing of a switch (ARINC 664 Part 7), as far as what came out of it tells what it may have done.
 //!
 //! A recording begins anywhere, and its stamps aren't the switch's: what a link's account held is known
 //! only in bounds. An [`Observed`] account is shown each regular frame that went in, in order, and

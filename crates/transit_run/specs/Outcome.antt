@@ -1,4 +1,4 @@
--- What became of a frame: the first that fits. The outcomes, their order and their words are this project's profile.
+-- The outcome of a frame: the first that fits. The outcomes, their order and their words are this project's profile.
 use Rattle.std.specs.Prelude.{ℕ, Bool, not, ◌||◌, List, codes, if◌then◌else◌}
 use Rattle.transit_run.specs.declared.outcome.Fate.{Fate}
 use Rattle.transit_run.specs.declared.outcome.Fate.TheVariants as fate

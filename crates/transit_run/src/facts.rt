@@ -1,9 +1,9 @@
-//! What is known of each link, listed in the table or not.
+//! The facts of each link, listed in the table or not.
 
 use crate::order::Order;
 
 /// When frames of a link first went in and came out, in nanoseconds, and whether they kept their order.
-#[derive(Clone, Copy, Debug)]
+#[derive(Clone, Copy)]
 pub(crate) struct LinkFacts {
     pub(crate) first_in: Option<u64>,
     pub(crate) first_out: Option<u64>,
@@ -38,7 +38,7 @@ impl LinkFacts {
 }
 
 /// The first moment and the last of a recording, in nanoseconds.
-#[derive(Clone, Copy, Debug)]
+#[derive(Clone, Copy)]
 pub(crate) struct Span {
     pub(crate) first: u64,
     pub(crate) last: u64,

@@ -17,7 +17,7 @@ const MAX_FAULTS: usize = 100;
 const SECOND: u64 = 1_000_000_000;
 
 /// The kinds of faults, in the order in which they are told.
-#[derive(Clone, Copy, Debug, PartialEq, Eq)]
+#[derive(Clone, Copy, PartialEq, Eq)]
 pub enum Kind {
     Dropped,
     Lax,
@@ -96,7 +96,7 @@ impl Kind {
 }
 
 /// The frames of one kind of fault. Moments are in nanoseconds.
-#[derive(Clone, Copy, Debug)]
+#[derive(Clone, Copy)]
 pub struct KindTally {
     /// How many frames there are.
     pub frames: u64,
@@ -140,7 +140,7 @@ impl KindTally {
 }
 
 /// A frame with a fault.
-#[derive(Clone, Copy, Debug)]
+#[derive(Clone, Copy)]
 pub struct FaultFrame {
     /// When it went in, or where it is without a partner, when it came out. In nanoseconds.
     pub moment: u64,

@@ -1,4 +1,4 @@
-//! What is kept of one link, or of all frames that have none.
+//! The lane of one link, or of all frames that have none.
 
 use crate::facts::LinkFacts;
 use crate::latency::Latency;

@@ -1,4 +1,4 @@
-//! What a switch did with the frames that went in: one pass over two recordings, made by one clock at a
+//! A switch and the frames that went in: one pass over two recordings, made by one clock at a
 //! port in and at a port out.
 //!
 //! A [`Pass`] is shown the frames of both recordings in the order of their moments, and writes a line for

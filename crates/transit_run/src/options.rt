@@ -1,4 +1,4 @@
-//! What a pass is asked for.
+//! The options of a pass.
 
 use afdx_frame::VlId;
 

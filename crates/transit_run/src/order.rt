@@ -1,7 +1,7 @@
-//! Whether frames of a link keep their order.
+//! The order of a link's frames, which a switch is to keep.
 
 /// The order of the frames of a link that came out.
-#[derive(Clone, Copy, Debug)]
+#[derive(Clone, Copy)]
 pub(crate) struct Order {
     /// When the last of them came out.
     latest: u64,

@@ -1,4 +1,4 @@
-//! What became of a frame, as a ledger of transits says it.
+//! The outcome of a frame, as a ledger of transits says it.
 
 ghost use Rattle.std.specs.Prelude.{◌≡◌, ◌<◌};
 ghost use Rattle.transit_run.specs.declared.outcome.TheConstants.{FATES, ORIGINS};
@@ -10,7 +10,7 @@ pub(crate) const FATES: usize = 11;
 pub(crate) const ORIGINS: usize = 5;
 
 /// The fates of a frame that went in.
-#[derive(Clone, Copy, Debug, PartialEq, Eq)]
+#[derive(Clone, Copy, PartialEq, Eq)]
 pub enum Fate {
     /// The recording holds a part of the frame, which says too little.
     Cut,
@@ -37,7 +37,7 @@ pub enum Fate {
 }
 
 /// The origins of a frame that came out and is no pair with one that went in.
-#[derive(Clone, Copy, Debug, PartialEq, Eq)]
+#[derive(Clone, Copy, PartialEq, Eq)]
 pub enum Origin {
     /// The recording holds a part of the frame, which says too little.
     Cut,
@@ -52,7 +52,7 @@ pub enum Origin {
 }
 
 /// How a frame that went in is paired.
-#[derive(Clone, Copy, Debug, PartialEq, Eq)]
+#[derive(Clone, Copy, PartialEq, Eq)]
 pub enum Pair {
     /// With none.
     Without,
@@ -63,7 +63,7 @@ pub enum Pair {
 }
 
 /// The knowledge of a frame that went in, once its window is over.
-#[derive(Clone, Copy, Debug)]
+#[derive(Clone, Copy)]
 pub struct Passage {
     /// Are some of its bytes not recorded?
     pub is_cut: bool,

@@ -5,7 +5,7 @@ use afdx_frame::VlId;
 use vl_config::Class;
 
 /// The head of a line: a frame before its outcome.
-#[derive(Clone, Copy, Debug)]
+#[derive(Clone, Copy)]
 pub(crate) struct Head {
     /// When it went in; or when it came out, later by what clocks may be off. In nanoseconds.
     pub(crate) moment: u64,
@@ -18,7 +18,7 @@ pub(crate) struct Head {
 }
 
 /// The frame of a pair that came out.
-#[derive(Clone, Copy, Debug)]
+#[derive(Clone, Copy)]
 pub(crate) struct Partner {
     pub(crate) number: u64,
     /// When it came out, in nanoseconds.

@@ -9,7 +9,7 @@ const LEAST: u64 = 64;
 const MAX_SILENCES: usize = 100;
 
 /// Frames in a row that the other recording lacks. Moments are in nanoseconds.
-#[derive(Clone, Copy, Debug)]
+#[derive(Clone, Copy)]
 pub struct Silence {
     pub from: u64,
     pub to: u64,

@@ -22,7 +22,7 @@ const FATES: [Fate; 10] = [
     Fate::Open,
 ];
 
-/// Those of frames that came out.
+/// The outcomes of frames that came out, likewise.
 const ORIGINS: [Origin; 4] = [Origin::Twice, Origin::New, Origin::Elsewhere, Origin::Open];
 
 fn write_fates(text: &mut String, tally: &Tally) -> Result<(), AllocError> {

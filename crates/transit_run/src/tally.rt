@@ -4,7 +4,7 @@ use crate::kind::Kind;
 use crate::outcome::{FATES, Fate, ORIGINS, Origin};
 
 /// How many frames there are of each outcome.
-#[derive(Clone, Copy, Debug)]
+#[derive(Clone, Copy)]
 pub struct Tally {
     /// Frames that went in.
     pub before: u64,

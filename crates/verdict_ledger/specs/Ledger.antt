@@ -1,4 +1,4 @@
--- What contracts see of a ledger.
+-- A ledger, as contracts see it.
 use Rattle.std.specs.Prelude.{◌≡◌, ℕ, ◌<◌, Bool, List, slice_index_or, Result, Ok, Err}
 use Rattle.afdx_frame.specs.declared.key.TheConstants.{VL_ID_COUNT}
 use Rattle.vl_config.specs.Document.{VlTable}

@@ -1,4 +1,4 @@
--- What a call of the ledger does to its sink.
+-- The effect of a call of the ledger on its sink.
 use Rattle.std.specs.Prelude.{◌≡◌, ℕ, List, ◌++◌, Option, None, Some, Result, Ok, Err}
 use Rattle.std.specs.Io.KnownBytes.{Appends}
 use Rattle.pcap_io.specs.Device.{AppendsPrefix, CountsFailure}

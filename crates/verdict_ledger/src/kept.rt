@@ -1,4 +1,4 @@
-//! What a ledger keeps of a table of virtual links.
+//! The part of a table of virtual links that a ledger keeps.
 ghost use Rattle.std.specs.Prelude.{◌≡◌, [], IfOk};
 ghost use Rattle.verdict_ledger.specs.Ledger.{IsTallyOf};
 

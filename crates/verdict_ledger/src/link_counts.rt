@@ -14,17 +14,17 @@ use vl_judge::Verdict;
 pub struct LinkCounts {
     /// All frames.
     pub frames: u64,
-    /// Those that a filter accepts. The line doesn't say them.
+    /// The frames that a filter accepts. The line doesn't say them.
     pub accepted: u64,
-    /// Those of the class `TooLong`.
+    /// The frames of the class `TooLong`.
     pub toolong: u64,
-    /// Those that policing drops.
+    /// The frames that policing drops.
     pub excess: u64,
-    /// Those that integrity checking drops.
+    /// The frames that integrity checking drops.
     pub out: u64,
     /// The second ones of pairs, which redundancy management drops.
     pub copy: u64,
-    /// Those that are delivered.
+    /// The frames that are delivered.
     pub delivered: u64,
 }
 

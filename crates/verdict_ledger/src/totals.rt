@@ -14,27 +14,27 @@ use vl_judge::Verdict;
 pub struct Totals {
     /// All frames.
     pub frames: u64,
-    /// Those that a filter accepts.
+    /// The frames that a filter accepts.
     pub accepted: u64,
-    /// Those of the class `Cut`.
+    /// The frames of the class `Cut`.
     pub cut: u64,
-    /// Those of the class `Runt`.
+    /// The frames of the class `Runt`.
     pub runt: u64,
-    /// Those of the class `Oversize`.
+    /// The frames of the class `Oversize`.
     pub oversize: u64,
-    /// Those of the class `Foreign`.
+    /// The frames of the class `Foreign`.
     pub foreign: u64,
-    /// Those of the class `Unconfigured`.
+    /// The frames of the class `Unconfigured`.
     pub unconfigured: u64,
-    /// Those of the class `TooLong`.
+    /// The frames of the class `TooLong`.
     pub toolong: u64,
-    /// Those that policing drops.
+    /// The frames that policing drops.
     pub excess: u64,
-    /// Those that integrity checking drops.
+    /// The frames that integrity checking drops.
     pub out: u64,
     /// The second ones of pairs, which redundancy management drops.
     pub copy: u64,
-    /// Those that are delivered.
+    /// The frames that are delivered.
     pub delivered: u64,
     /// By a filter's number, those whose mask has its bit.
     pub filters: [u64; MAX_FILTERS],

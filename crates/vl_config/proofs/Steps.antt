@@ -1,4 +1,4 @@
--- What is left of a list after its first elements, for the loops over it.
+-- The rest of a list after its first elements, for the loops over it.
 use Rattle.std.proofs.Common.{◌≡◌, ℕ, ◌+◌, ◌<◌, List, length, map, get_or, take, drop, refl}
 use Rattle.std.proofs.lemmas.List.{take_more, drop_more}
 use Rattle.std.specs.Option.{option_or}

@@ -1,4 +1,4 @@
--- What a TOML document says as a table of virtual links, and its first fault (this project's profile).
+-- A TOML document as a table of virtual links, and its first fault (this project's profile).
 use Rattle.std.specs.Prelude.{◌≡◌, ℕ, ◌+◌, ◌*◌, ◌≤◌, ◌⊎◌, IsTrue, Bool, false, ◌||◌, List, [], ◌∷◌, ◌++◌, length, map, Option, Some, None, unwrap_or, ◌==◌, nat_eq, nat_lt, if◌then◌else◌, IsPermutation}
 use Rattle.std.specs.Option.{option_map_or, option_and_then, option_or}
 use Rattle.std.specs.List.{list_any, IsDistinct}

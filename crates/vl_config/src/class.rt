@@ -1,4 +1,4 @@
-//! What a frame is before any judgement: a class decides whether policing sees it.
+//! The class of a frame before any judgement, which decides whether policing sees it.
 
 ghost use Rattle.std.specs.Prelude.{◌≡◌, ◌↔◌};
 ghost use Rattle.afdx_frame.specs.View.{constant_of};

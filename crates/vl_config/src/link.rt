@@ -1,4 +1,4 @@
-//! What the table says of one link, in nanoseconds and bytes, whatever the units of the document.
+//! A link as the table has it, in nanoseconds and bytes, whatever the units of the document.
 
 ghost use Rattle.std.specs.Prelude.{◌≡◌};
 ghost use Rattle.vl_config.specs.Link.{VirtualLink};

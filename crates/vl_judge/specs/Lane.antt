@@ -1,4 +1,4 @@
--- What a lane knows after a list of frames with their verdicts (this project's profile).
+-- The knowledge of a lane after a list of frames with their verdicts (this project's profile).
 use Rattle.std.specs.Prelude.{◌≡◌, ℕ, ◌≤◌, List}
 use Rattle.std.specs.Option.{ForSome}
 use Rattle.afdx_frame.specs.declared.key.Network.{Network}

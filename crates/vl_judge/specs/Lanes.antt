@@ -1,4 +1,4 @@
--- What the lanes of all links know after a list of frames (this project's profile).
+-- The knowledge of the lanes of all links after a list of frames (this project's profile).
 use Rattle.std.specs.Prelude.{◌≡◌, ℕ, ◌<◌, ◌≤◌, Bool, List, [], ◌∷◌, length, Option, Some, None, find, ◌==◌, slice_index, All, ⊤}
 use Rattle.std.specs.Option.{ForSome, option_map_or}
 use Rattle.std.specs.List.{position_or_len}

@@ -1,4 +1,4 @@
--- What is left of a run whose taps were read by threads, once both rings are settled.
+-- The remains of a run whose taps were read by threads, once both rings are settled.
 use Rattle.std.proofs.Common.{◌≡◌, inl, inr, ◌⊎◌, ◌++◌, ◌∷◌, [], ℕ, ◌+◌, ◌≤◌, List, Option, Some, None, false, length, take, refl, sym, subst, ap, ◌∙◌, append-nil, append_assoc}
 use Rattle.std.specs.Prelude.{unwrap_or}
 use Rattle.std.specs.Io.KnownBytes.{Appends}

@@ -1,4 +1,4 @@
--- What is written of a round, out of that of its chunks.
+-- The text that is written of a round, out of that of its chunks.
 use Rattle.std.proofs.Common.{◌≡◌, ℕ, ◌+◌, ◌-◌, ◌≤◌, true, List, [], ◌∷◌, ◌++◌, length, map, take, drop, slice_range, sym, ap, ◌∙◌, arith}
 use Rattle.std.proofs.lemmas.List.{length-map, length-take-le, map-append, take-append-drop, take_all}
 use Rattle.std.proofs.Math.Seq.{take-append-add}

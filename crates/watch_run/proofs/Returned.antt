@@ -1,4 +1,4 @@
--- What a run over two recordings leaves, once its devices are given back.
+-- The remains of a run over two recordings, once its devices are given back.
 use Rattle.std.proofs.Common.{◌≡◌, inr, ℕ, List, [], ◌∷◌, ◌++◌, length, ap, Some, refl, subst, sym, ◌∙◌}
 use Rattle.std.proofs.lemmas.List.{append-nil}
 use Rattle.std.specs.Prelude.{IfSome}

@@ -1,4 +1,4 @@
--- What a run has cut comes first in the order of both recordings whole.
+-- The frames that a run has cut come first in the order of both recordings whole.
 use Rattle.std.proofs.Common.{◌≡◌, ℕ, ◌+◌, max, true, List, [], ◌∷◌, ◌++◌, drop, Option, Some, None, is_some, Result, Ok, refl, sym, subst, ap, ◌∙◌}
 use Rattle.std.proofs.lemmas.List.{append-nil}
 use Rattle.std.specs.Prelude.{IfSome, unwrap_or}

@@ -1,4 +1,4 @@
--- What holds of captures by their definitions alone.
+-- Laws of captures, which hold by their definitions alone.
 use Rattle.std.specs.Prelude.{◌≡◌, List}
 use Rattle.afdx_frame.specs.Frame.{Frame}
 use Rattle.bpf_isa.specs.declared.packed.Packed.{Packed}

@@ -1,4 +1,4 @@
--- What is written of frames (this project's profile).
+-- The text that is written of frames (this project's profile).
 use Rattle.std.specs.Prelude.{◌≡◌, List, [], ◌++◌, map}
 use Rattle.afdx_frame.specs.Frame.{Frame}
 use Rattle.watch_run.specs.Filters.{Making, keep_by, packets_of}

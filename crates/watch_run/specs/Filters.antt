@@ -1,4 +1,4 @@
--- What a run makes of its frames: up to eight filters (this project's profile), and the format of the capture.
+-- The making of a run, from its frames: up to eight filters (this project's profile), and the format of the capture.
 use Rattle.std.specs.Prelude.{ℕ, min, List, [], ◌++◌, length, map, flat_map, Option, Some, None, ◌==◌, if◌then◌else◌}
 use Rattle.std.specs.Option.{option_map_or}
 use Rattle.afdx_frame.specs.Frame.{Frame}

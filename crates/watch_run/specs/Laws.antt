@@ -1,4 +1,4 @@
--- What is said of any two runs over the same bytes.
+-- Laws of any two runs over the same bytes.
 use Rattle.std.specs.Prelude.{◌≡◌, ◌<◌, ℕ, List, Some, slice_index_or}
 use Rattle.watch_run.specs.Filters.{Making}
 use Rattle.pcap_io.specs.declared.recording.Ending.{Ending}

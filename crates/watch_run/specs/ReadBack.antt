@@ -65,7 +65,7 @@ pub record IsHeld (f : Frame) : Type 0 where
   pub frame : IsFrame f
   pub bytes : IsBytes f.bytes
 
--- What a run puts beside a verdict: the frame, and bytes kept of it where its mask names a filter.
+-- The things that a run puts beside a verdict: the frame, and bytes kept of it where its mask names a filter.
 pub record IsKept (e : Entry) : Type 0 where
   pub held : IsHeld e.frame
   pub kept : IfSome e.keep (Below (2 ^ 32))

@@ -11,7 +11,7 @@ use Rattle.vl_config.specs.Document.{VlTable}
 use Rattle.pcap_io.specs.Word.{frames_before}
 use Rattle.watch_run.specs.ReadBack.{IsHeld, IsNamed, written_lines}
 
--- What a run has: at most eight filters, a table whose links have names, frames of recordings, and how these end.
+-- A run: at most eight filters, a table whose links have names, frames of recordings, and how these end.
 pub record IsRun (ps : Making) (vl_table : VlTable) (frames : List Frame) (a b : Ending) : Type 0 where
   pub filters : length ps.filters ≤ 8
   pub named : AllByRecursion IsNamed vl_table.links

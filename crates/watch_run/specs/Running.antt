@@ -74,7 +74,7 @@ pub record StopsRunning (fault : WatchFault) (ps : Making) (vl_table : VlTable) 
       ⊎ StopsWriting (effect_of fault) ps vl_table capture ledger capture' ledger' cut
   pub safe : WhereFailed fault (HasCutSafe vl_table.late cut a b)
 
--- What is done with the frames of the rings: the run goes on to the end of both recordings, or it stops.
+-- The frames of the rings are dealt with so: the run goes on to the end of both recordings, or it stops.
 pub record GoesOn {W L : Type 0} (w : SinkMembers W) (l : SinkMembers L)
     (ps : Making) (before : Rings) (outputs : Outputs W L) (after : Rings) (result : Result (Outputs W L) (Unwritten W L)) : Type 0 where
   pub same_a : SameEnd before.a after.a

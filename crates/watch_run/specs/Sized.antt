@@ -1,4 +1,4 @@
--- What runs of given sizes come to: what those of the program do.
+-- Runs of given sizes, and what they come to: what those of the program do.
 use Rattle.std.specs.Prelude.{ℕ, IfSome}
 use Rattle.std.specs.Option.{option_map}
 use Rattle.watch_run.specs.Filters.{Making}

@@ -1,4 +1,4 @@
--- What a whole run over two recordings leaves, and why it was aborted (this project's profile).
+-- A whole run over two recordings: what it leaves, and why it was aborted (this project's profile).
 use Rattle.std.specs.Prelude.{◌≡◌, ◌⊎◌, ℕ, List, [], ◌∷◌, length, take, Some, IfSome, ⊤}
 use Rattle.std.specs.Io.KnownBytes.{Appends}
 use Rattle.afdx_frame.specs.Frame.{Frame}

@@ -1,4 +1,4 @@
-//! What holds of captures by their definitions alone.
+//! Laws of captures, which hold by their definitions alone.
 
 ghost use Rattle.watch_run.specs.CaptureLaws.{PcapHasAcceptedFrames};
 

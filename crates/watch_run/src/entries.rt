@@ -1,4 +1,4 @@
-//! What is written of frames, made in memory: on the calling thread for a whole round, or by workers for its
+//! The entries of frames, made in memory: on the calling thread for a whole round, or by workers for its
 //! chunks, which are then put together.
 ghost use Rattle.std.specs.Prelude.{◌≡◌, ◌≤◌, ◌++◌, ◌∷◌, [], IfOk, OnOk, length, map};
 ghost use Rattle.filter_workers.specs.Filters.{mask_by};
@@ -43,7 +43,7 @@ fn keep_of(answer: u32, frame: &LentFrame<'_>) -> Option<u32>
 }
 
 impl Entries {
-    /// Those of no frame. Allocates nothing.
+    /// The entries of no frame. Allocates nothing.
     pub fn new(alloc: Global) -> Entries
         ensures { AreNone result }
     {
@@ -56,7 +56,7 @@ impl Entries {
         }
     }
 
-    /// Those of no frame, in the same memory.
+    /// Makes them those of no frame, in the same memory.
     pub fn clear(&mut self)
         ensures { AreNone self.new }
     {

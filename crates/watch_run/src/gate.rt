@@ -1,4 +1,4 @@
-//! What a run tells while it runs, and a gate that lets all through.
+//! The observer of a run, and a gate that lets all through.
 
 use afdx_frame::Network;
 use filter_workers::RunGate;

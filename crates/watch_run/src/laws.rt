@@ -1,4 +1,4 @@
-//! What holds of any two runs, and of any ledger that is written and read, by their definitions alone.
+//! Laws of any two runs, and of any ledger that is written and read, which hold by their definitions alone.
 
 ghost use Rattle.watch_run.specs.Laws.{SameBytesInSameBytesOut};
 ghost use Rattle.watch_run.specs.ReadBack.{NoEndIsFoundBefore, NoLineIsRefused, ReadsFirstLines};

@@ -1,4 +1,4 @@
-//! What a run makes of its frames.
+//! The plan of a run: what it makes of its frames.
 ghost use Rattle.std.specs.Prelude.{◌≡◌};
 ghost use Rattle.watch_run.specs.Filters.{making_of, pcap_of};
 

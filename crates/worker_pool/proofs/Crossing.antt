@@ -1,4 +1,4 @@
--- What a worker has may go to another thread.
+-- All that a worker has may go to another thread.
 use denote.RattleType.{RattleType}
 use denote.Enum.Declared as enum
 use denote.Param.Send.{Frees, IsSend, IsSync, enum_send, recorded_send, recorded_sync, sendable, struct_send, struct_sync, view_send, view_sync}

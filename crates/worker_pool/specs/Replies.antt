@@ -1,4 +1,4 @@
--- What a reply ring allows.
+-- A reply ring, and what it allows.
 use Rattle.std.specs.Prelude.{ℕ, List, [], ◌∷◌, Option, Some, None, IfSome}
 use Rattle.worker_pool.specs.Chunks.{Posted}
 use Rattle.worker_pool.specs.Shares.{IsShare}

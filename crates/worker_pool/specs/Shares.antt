@@ -1,4 +1,4 @@
--- What a thread hands back of a round.
+-- The share of a round that a thread hands back.
 use Rattle.std.specs.Prelude.{◌≡◌, ℕ, ◌*◌, ◌<◌, List, [], ◌++◌, map, All}
 use Rattle.filter_workers.specs.Seats.{joined_seat}
 use Rattle.worker_pool.specs.Chunks.{Posted, chunk_count, chunk_end}

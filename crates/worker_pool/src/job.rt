@@ -1,4 +1,4 @@
-//! What a worker is asked, and what it does.
+//! The job that a worker is asked, and its doing.
 ghost use Rattle.std.specs.Prelude.{◌≡◌, Some, []};
 ghost use Rattle.std.specs.Arc.{arc_value};
 ghost use Rattle.rtrb.specs.Ring.{sent};

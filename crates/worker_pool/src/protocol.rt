@@ -1,4 +1,4 @@
-//! What the end of a reply ring that answers owes the end that asked.
+//! The protocol of a reply ring: what the end that answers owes the end that asked.
 ghost use Rattle.std.specs.Prelude.{◌≡◌, Some, IfOk};
 ghost use Rattle.rtrb.specs.Ring.{received, sent};
 ghost use Rattle.worker_pool.specs.Replies.{Allows, asked_share, question};

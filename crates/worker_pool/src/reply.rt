@@ -1,4 +1,4 @@
-//! What goes through a reply ring.
+//! The items that go through a reply ring.
 ghost use Rattle.std.specs.Prelude.{◌≡◌, IfSome};
 
 use crate::posting::Posting;

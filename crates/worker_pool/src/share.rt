@@ -1,4 +1,4 @@
-//! What a thread hands back of a round.
+//! The share of a round that a thread hands back.
 ghost use Rattle.std.specs.Prelude.{◌≡◌, IfOk, IsPermutation, map};
 ghost use Rattle.std.specs.List.Sorted.{IsNonDecreasingBy};
 

@@ -1,4 +1,4 @@
-//! What a pool is started for.
+//! The task that a pool is started for.
 ghost use Rattle.std.specs.Prelude.{◌≡◌, ◌<◌, ◌≤◌, ℕ};
 
 /// The work on a chunk of a round.

@@ -1,4 +1,4 @@
-//! What a person is told of a run that ended.
+//! The words for a person on a run that ended.
 use afdx_frame::Network;
 use command_line::{Exit, Summary, hint_of};
 use std::io;

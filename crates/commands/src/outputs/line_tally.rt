@@ -1,5 +1,5 @@
-//! What a cut saw of its ledger, and the notes on that: lines of a network without a recording, which are
-//! passed over, and a selection that takes no line.
+//! The lines that a cut saw of its ledger, and the notes on that: lines of a network without a recording,
+//! which are passed over, and a selection that takes no line.
 use afdx_frame::{Network, Stamp};
 use command_line::CutArguments;
 use cut_run::LineObserver;

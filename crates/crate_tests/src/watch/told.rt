@@ -1,4 +1,4 @@
-//! What is told of a run on threads: each frame, as it is judged and as it is filtered, and each tap once,
+//! Tests of what a run on threads tells: each frame, as it is judged and as it is filtered, each tap once,
 //! and a fault that ends it once.
 
 use crate::support::{SOUND, TABLE};

@@ -1,4 +1,4 @@
-//! What the model has of each tap: the frames to come, and its ring.
+//! The model's side of each tap: the frames to come, and its ring.
 ghost use Rattle.std.specs.Prelude.{◌≡◌, ◌<◌, [], ◌∷◌, ◌++◌, IfNone, IfOk, OnSome, length};
 ghost use Rattle.std.specs.Option.{option_to_list};
 ghost use Rattle.specified.specs.Events.Side.{Steps, end_step, new_side, put_step};

@@ -1,4 +1,4 @@
--- What filters say of frames, and what is kept of them.
+-- The word of filters on frames, and what is kept of them.
 use Rattle.std.proofs.Common.{◌≡◌, ◌∙◌, ℕ, zero, suc, ◌+◌, ◌*◌, ◌^◌, ◌<◌, ◌≤◌, min, max, Bool, false, cond, nat_lt, lt-ltb, ne_eqb, ◌==◌, List, [], ◌∷◌, length, map, Option, None, Some, is_some, IfSome, refl, sym, ap, arith, pow-suc, pow_mono}
 use Rattle.std.specs.List.{AllByRecursion}
 use Rattle.afdx_frame.specs.Frame.{Frame, IsFrame}

@@ -1,4 +1,4 @@
--- What is read of lines is read one way.
+-- Lines are read one way.
 use Rattle.std.proofs.Common.{◌≡◌, ◌∙◌, true≢false, ℕ, zero, suc, ◌+◌, ◌*◌, ◌<◌, ◌≤◌, Bool, true, false, cond, not, List, [], ◌∷◌, ◌++◌, length, get_or, is_none, Option, None, Some, refl, sym, ap, subst, arith, length-append, append-nil}
 use Rattle.std.proofs.lemmas.Fmt.{digits_decimal}
 use Rattle.std.proofs.lemmas.Bool.{false≢true}

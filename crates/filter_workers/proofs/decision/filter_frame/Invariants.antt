@@ -1,4 +1,4 @@
--- What the filters from the index on say.
+-- The word of the filters from the index on.
 use Rattle.std.proofs.Common.{◌≡◌, ◌-◌, ◌<◌, ◌^◌, drop, length}
 use Rattle.filter_workers.specs.Filters.{answer_by, mask_by}
 use Rattle.filter_workers.proofs.decision.filter_frame.Given as goal

@@ -1,4 +1,4 @@
--- What was written is a prefix of the bytes.
+-- The bytes that were written are a prefix of all.
 use Rattle.std.proofs.Common.{length, ◌-◌, ◌≡◌, ◌≤◌, take}
 use Rattle.std.specs.Io.KnownBytes.{Appends}
 use Rattle.pcap_io.proofs.transfer.write_all.Given as goal

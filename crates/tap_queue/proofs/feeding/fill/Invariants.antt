@@ -1,4 +1,4 @@
--- What the reader gave since was put, and no room that was known is left over.
+-- All that the reader gave since was put, and no room that was known is left over.
 use Rattle.std.proofs.Common.{◌≡◌, ◌+◌, ◌<◌, ◌≤◌, false}
 use Rattle.rtrb.specs.Ring.{known_free}
 use Rattle.pcap_io.specs.Reader.{reading_of}

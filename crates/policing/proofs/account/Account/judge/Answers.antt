@@ -1,4 +1,4 @@
--- What the account holds decides as the windows do, and the frame's charge is taken from it.
+-- The account's content decides as the windows do, and the frame's charge is taken from it.
 use Rattle.std.proofs.Common.{◌≡◌, ◌*◌, ◌<◌, ◌≤◌, ap, refl, arith, le-leb}
 use Rattle.std.proofs.lemmas.Bool.{lt-leb}
 use Rattle.policing.specs.declared.verdict.Policing.TheVariants.{Within, Excess}

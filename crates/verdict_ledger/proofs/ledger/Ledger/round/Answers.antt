@@ -1,4 +1,4 @@
--- Whether the ledger stands after entries doesn't rest on its text.
+-- The ledger stands after entries whatever its text is.
 use Rattle.std.proofs.lemmas.Result.{on_ok_weaker, on_err_weaker}
 use Rattle.verdict_ledger.proofs.ledger.Ledger.round.Goals as goal
 
