@@ -101,7 +101,7 @@ def unpacked(packer, suffix):
             out.write(WHOLE)
         subprocess.run([packer, "-q", path], check=True)
         ran = run(["capture", "-v", "--code", EVERY, path + suffix], stdout=subprocess.PIPE)
-        words = ran.stderr.decode().splitlines()[-1].partition(f"compressed by {packer}: ")[2]
+        words = ran.stderr.decode().splitlines()[-1].partition(f"({packer}) as it is read: ")[2]
         ran = subprocess.run(["bash", "-c", f"'{PROGRAM}' capture --code '{EVERY}' {words}"], capture_output=True, timeout=60)
         expected = header() + b"".join(record(*one) for one in FRAMES)
         return "" if words and (ran.returncode, ran.stdout) == (SUCCESS, expected) else f"{words!r}: {ran.stderr!r}"

@@ -11,7 +11,7 @@ import sys
 import tomllib
 from collections import defaultdict, namedtuple
 
-sys.path.insert(0, os.path.dirname(os.path.abspath(__file__)))
+sys.path.insert(0, os.path.dirname(os.path.dirname(os.path.abspath(__file__))))
 sys.dont_write_bytecode = True
 from tests.reference import HEADER, accept_length, parse, program_of, record_of  # noqa: E402
 

@@ -3,7 +3,7 @@ import subprocess
 
 from tests.harness import FAULT, SUCCESS, Case
 from tests.harness import run
-from tests.texts import FULL
+from tests.texts import FULL, UNWRITTEN
 
 # Each form as one statement, and its word as Linux's bpf_asm prints it. `then` is 2 statements farther than the next,
 # `else` 3.
@@ -80,7 +80,7 @@ class Assembling(Case):
         for name, source in (("a filter", "ret #0\n"), ("a filter of 4096 instructions", "ld #4294967295\n" * 4095 + "ret #0\n")):
             with open("/dev/full", "wb") as full:
                 ran = run(["asm", "-v"], input=source.encode(), stdout=full)
-            self.judge(f"asm: {name} on a full disk", ran, FAULT, f"afdxmon: file -\nstandard output: {FULL}")
+            self.judge(f"asm: {name} on a full disk", ran, FAULT, f"afdxmon: file -\nstandard output: {FULL}\n{UNWRITTEN}")
 
     def test_statements(self):
         for statement, word in FORMS:

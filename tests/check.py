@@ -9,6 +9,7 @@ import random
 import re
 import struct
 import subprocess
+import textwrap
 import zlib
 from datetime import datetime, timedelta, timezone
 
@@ -354,7 +355,7 @@ class Reference:
         if not out:
             return []
         text = f"do both networks carry the same frames? {len(out)} of {count} copies have other bytes than their frames, source addresses aside, "
-        return [f"{text}{where(out)}. Are the clocks apart by a round of 255 numbers, or does something on the way change frames?"]
+        return [(f"{text}{where(out)}.", "Compare a pair in Wireshark. Clocks that are a round of 255 numbers apart look so, too")]
 
     def difference(self):
         """How far B's clock is ahead, by most of the links whose pair is further apart than their own SkewMax, how many say so, and how
@@ -382,34 +383,43 @@ class Reference:
         return [network for network, tap in self.taps.items() if not tap and network in self.readable]
 
     def questions(self):
+        """Each question, and the lines of what to do."""
         out = [
-            f"was network {network} recorded? Its recording has no frame: look at its tap, or leave the recording out"
+            (f"was network {network} recorded? Its recording has no frame.", "Look at its tap, or leave the recording out")
             for network in self.empty()
         ]
         if self.same():
-            out.append("are --a and --b one recording? All their frames are the same")
+            out.append(("are --a and --b one recording? All their frames are the same.", "Name the other network's recording in the place of one"))
         else:
             if self.marked("A", "B") and self.marked("B", "A"):
-                out.append("are the networks swapped? The source addresses in --a are of network B, those in --b of A")
-            out += [f"are both recordings of network {n}? So say their source addresses" for n in "AB" if self.marked("A", n) and self.marked("B", n)]
+                out.append(("are the networks swapped? The source addresses in --a are of network B, those in --b of A.", "Swap --a and --b"))
+            out += [
+                (f"are both recordings of network {n}? So say their source addresses.", f"Name a recording of network {other} as --{other.lower()}")
+                for n, other in ("AB", "BA")
+                if self.marked("A", n) and self.marked("B", n)
+            ]
             if self.overlap() is False:
-                out.append("do the recordings belong together? One ends before the other begins")
+                out.append(APART)
         foreign = sum(self.foreign.values())
         of = self.all - sum(self.expected.values())
         if nearly_all(foreign, of):
             constant = max(self.foreign, key=lambda one: self.foreign[one])
-            out.append(f"is the table's 'constant' that of this network? Not that of {foreign} of {of} frames; {self.foreign[constant]} have {constant}")
+            out.append((
+                f"is the table's 'constant' that of this network? {foreign} of {of} frames have another; {self.foreign[constant]} have {constant}.",
+                f"Set 'constant' to {constant} in the table, if that is this network's",
+            ))
         checks = [n for n in "AB" if self.has_checks(n)]
-        out += [f"does the recording of network {n} hold frame check sequences? editcap -F nsecpcap -L -C -4 in.pcap out.pcap takes them off" for n in checks]
+        off = "Take them off: editcap -F nsecpcap -L -C {} in.pcap out.pcap"
+        out += [(f"does the recording of network {n} hold frame check sequences?", off.format("-4")) for n in checks]
         tagged = {n: sum(data[12:14] == b"\x81\0" for _, _, data in self.taps[n]) for n in "AB"}
         tagged = {n: count for n, count in tagged.items() if nearly_all(count, len(self.taps[n]))}
         out += [
-            f"do the frames of network {n} have 802.1Q tags? {count} of {len(self.taps[n])} of them have one, as some taps add it. "
-            "editcap -F nsecpcap -L -C 12:4 in.pcap out.pcap takes them off"
+            (f"do the frames of network {n} have 802.1Q tags? {count} of {len(self.taps[n])} of them have one, as some taps add it.", off.format("12:4"))
             for n, count in tagged.items()
         ]
         if not checks and not tagged and nearly_all(self.long, self.all):
-            out.append(f"does 'smax' count a frame without its check sequence? {self.long} of {self.all} frames are longer")
+            text = f"does 'smax' count a frame without its check sequence? {self.long} of {self.all} frames are longer."
+            out.append((text, "Add 4 to each 'smax' of the table"))
         out += self.unlike() if not checks and not tagged else []
         out += self.classes()
         out += self.clocks() if not checks and not self.same() else []
@@ -426,8 +436,8 @@ class Reference:
         if not out:
             return []
         text = f"does the recording of network {network} hold frames twice? {len(out)} of {len(self.listed[network])} frames there have all bytes of the one before, "
-        text += f"less than half of a BAG later, {where(out)}. Record each frame once (a mirror port brings both ways), or take off the second: "
-        return [text + "editcap -F nsecpcap -d in.pcap out.pcap"]
+        text += f"less than half of a BAG later, {where(out)}."
+        return [(text, "Record each frame once (a mirror port brings both ways), or take off the second:", "editcap -F nsecpcap -d in.pcap out.pcap")]
 
     def crossings(self, network):
         """A network where frames of the table's links name the other one, though nearly all name one."""
@@ -436,19 +446,19 @@ class Reference:
         others = [(stamp, link) for stamp, link, mark in listed if mark == {"A": 1, "B": 2}[other]]
         if wired or not others or not nearly_all(sum(mark in (1, 2) for _, _, mark in listed), len(listed)):
             return []
-        return [f"were cables of network {network} swapped? {len(others)} of {len(listed)} frames there have source addresses of network {other}, {where(others)}"]
+        text = f"were cables of network {network} swapped? {len(others)} of {len(listed)} frames there have source addresses of network {other}, {where(others)}."
+        return [(text, "Swap the cables or taps back, and judge the parts before and after alone (editcap -B, -A)")]
 
     def classes(self):
         unlisted, out = sum(self.unlisted.values()), []
         if 2 * unlisted > self.all:
-            out.append(f"is the table that of another aircraft? {unlisted} of {self.all} frames are of links that it lacks")
+            text = f"is the table that of another aircraft? {unlisted} of {self.all} frames are of links that it lacks."
+            out.append((text, "Name this network's table as --config"))
         for network, tap in self.taps.items():
             held = [len(data) for _, length, data in tap if len(data) < length]
             if len(held) > len(tap) // 100:
-                out.append(
-                    f"does the recorder of network {network} cut frames at {max(held)} bytes? {len(held)} of {len(tap)} frames are cut short. "
-                    "What becomes of them isn't known: record them whole, tcpdump -s 0"
-                )
+                text = f"does the recorder of network {network} cut frames at {max(held)} bytes? {len(held)} of {len(tap)} frames are cut short."
+                out.append((text, "Record whole frames, by tcpdump -s 0: no rule can judge these"))
         return out
 
     def clocks(self):
@@ -457,18 +467,24 @@ class Reference:
         if not (a and b and 2 * copies < a and 2 * copies < b):
             if told and lonely >= 2 and nearly_all(told[1], told[2]):
                 text = f"are the clocks of the taps apart by rounds of 255 numbers? Most frames have a copy, and {counted(lonely, 'link')} have none."
-                return [text + self.apart(told)]
+                return [(text + self.apart(told), self.set_back(told))]
             return []
         if told is None and not (copies == 0 and self.overlap()):
             return []
         text = "are the clocks of the taps apart? Under half of the frames have a copy within SkewMax."
-        return [text + (self.apart(told) if told else "")]
+        if told:
+            return [(text + self.apart(told), self.set_back(told))]
+        return [(text, "Synchronise the taps (PTP), or take both recordings of one flight")]
 
     @staticmethod
     def apart(told):
         ahead, nanos = "B" if told[0] > 0 else "A", abs(told[0])
-        text = f" By equal sequence numbers that of {ahead} is {nanos // 10**9}.{nanos % 10**9:09} s ahead, say {told[1]} of {told[2]} links"
-        return text + f"; editcap -F nsecpcap -t -{nanos // 10**9}.{nanos % 10**9:09} in.pcap out.pcap sets it back"
+        return f" By equal sequence numbers that of {ahead} is {nanos // 10**9}.{nanos % 10**9:09} s ahead, say {told[1]} of {told[2]} links."
+
+    @staticmethod
+    def set_back(told):
+        ahead, nanos = "B" if told[0] > 0 else "A", abs(told[0])
+        return f"Set that of {ahead} back: editcap -F nsecpcap -t -{nanos // 10**9}.{nanos % 10**9:09} in.pcap out.pcap"
 
     def notes(self):
         absent = [f"{link['id']} {link['name']}" for link in sorted(self.links, key=lambda one: one["id"]) if not self.by_link[link["id"]]]
@@ -486,9 +502,23 @@ class Reference:
         return text
 
 
+APART = ("do the recordings belong together? One ends before the other begins.", "Take both recordings of one flight, or set one right by editcap -t")
+
+
+def asking(asked, *advice):
+    """The lines of a question: at most 100 columns, and below it what to do."""
+    lines = textwrap.wrap(f"question: {asked}", 100, subsequent_indent="  ", break_long_words=False, break_on_hyphens=False)
+    return "".join(f"{line}\n" for line in (*lines, *(f"  {line}" for line in advice)))
+
+
 def toml_of(links, constant=50331648, late=0):
     text = f"constant = {constant}\nlate_us = {late}\n"
     return text + "".join("\n[[link]]\n" + "".join(f"{key} = {json.dumps(value)}\n" for key, value in link.items()) for link in links)
+
+
+def questions_in(text):
+    """The questions of an answer, each as one line with what to do."""
+    return [line for line in text.replace("\n  ", " ").splitlines() if line.startswith("question: ")]
 
 
 def expected(config, links, recordings, constant=50331648, late=0, kinds=(), traffic=()):
@@ -504,7 +534,7 @@ def expected(config, links, recordings, constant=50331648, late=0, kinds=(), tra
     about = Reference(links, taps["A"], taps["B"], constant, readable, traffic)
     text += {True: "overlap: the recordings overlap in time\n", False: "overlap: none\n", None: ""}[about.overlap()]
     questions = about.questions()
-    text += "".join(f"question: {question}\n" for question in questions) + about.notes()
+    text += "".join(asking(*question) for question in questions) + about.notes()
     sound = "yes" if not questions and not faults else f"no, {counted(faults, 'fault')} and {counted(len(questions), 'question')}"
     return text + f"sound: {sound}\n"
 
@@ -969,8 +999,8 @@ class Check(Case):
             text = expected(config, links, recordings)
             self.judged(name, asked(*given), text)
             answer = json.loads(asked(*given, "--json").stdout)
-            told = [f"question: {one['text']}\n" for one in answer["questions"]]
-            fits = "".join(told) in text and len(told) == text.count("question: ") and answer["sound"] == text.endswith("yes\n")
+            told = [f"question: {one['text']}" for one in answer["questions"]]
+            fits = told == questions_in(text) and answer["sound"] == text.endswith("yes\n")
             fits = fits and [link["id"] for link in answer["links"]] == sorted(link["id"] for link in links)
             self.case(f"check: {name}, as JSON", "" if fits else json.dumps(answer)[:600])
 
@@ -999,7 +1029,7 @@ class Check(Case):
                 self.case(f"check: {name} other traffic, --expected {text}, as JSON", "" if told == there else f"{answer['foreign']}, not {there}")
         for text in ("", "ptp,", "PTP", "0x5ff", "0x10000", "88f7", "ptp lldp"):
             ran = asked("--config", config, "--expected", text)
-            wanted = b"--expected is arp, ipv4, ipv6, lldp, ptp, 802.1q, 802.3 or EtherTypes as 0x88f7, with commas"
+            wanted = texts.MISUSE["NoKind"].encode()
             self.case(f"check: --expected {text!r}", "" if ran.returncode == 2 and wanted in ran.stderr else f"{ran.returncode}: {ran.stderr!r}")
 
     def test_of_disorder(self):
@@ -1050,7 +1080,7 @@ class Check(Case):
         self.judged("a file that is no recording", asked("--config", config, "--a", paths[0], "--b", paths[3]), text)
         packed = write(os.path.join(self.folder, "b.pcap.gz"), b"\x1f\x8b\x08\0" + bytes(30))
         ran = run(["check", "--config", config, "--a", paths[0], "--b", packed, "-v"], stdout=subprocess.PIPE)
-        told = f"{UNSOUND}\na run with these inputs would not be sound: the answer says why\n{packed}: compressed by gzip: --b <(zcat {packed})\n"
+        told = f"{UNSOUND}\n{texts.ADVICE['check 1 Unsound']}\n{packed}: {texts.GZIP.format(packed)}\n"
         self.case("check: a compressed recording, in full", difference(ran, FAULT, lambda said: said == told, text.encode()))
         for option in ("--config", "--filter", "--a", "--b"):
             given = {"--config": config, option: os.path.join(self.folder, "absent")}
@@ -1060,10 +1090,10 @@ class Check(Case):
         self.case("check: a full output", difference(ran, FAULT, "afdxmon: file -"))
         with open("/dev/full", "wb") as full:
             ran = run(["check", "--config", config, "-v"], stdout=full)
-        self.case("check: a full output, in full", difference(ran, FAULT, f"afdxmon: file -\nstandard output: {texts.FULL}"))
+        self.case("check: a full output, in full", difference(ran, FAULT, f"afdxmon: file -\nstandard output: {texts.FULL}\n{texts.UNWRITTEN}"))
         write(config, toml_of(links).replace("bag_ms = ", "bag_ms = 3 #"))
         ran = run_at_terminal(["check", "--config", config])
-        advice = "a run with these inputs would not be sound: the answer says why"
+        advice = texts.ADVICE["check 1 Unsound"]
         self.case("check: an unsound run at a terminal", "" if ran.returncode == FAULT and ran.stderr == f"{UNSOUND}\n{advice}\n" else repr(ran.stderr))
 
     def test_of_long_recordings(self):
@@ -1084,7 +1114,7 @@ class Check(Case):
             text = f"table: {config}: 1 link, constant 50331648\n"
             text += f"network A: {paths[0]}: pcap, little-endian, nanoseconds; 1000000 frames, {moment(START)} to {moment(START)}; {goes_on}\n"
             text += f"network B: {paths[1]}: pcap, little-endian, nanoseconds; 1 frame, {moment(START + 5)} to {moment(START + 5)}; it ends clean\n"
-            text += f"overlap: not within what was read of the recordings\nsound: yes; of A by its first 1000000 frames{part}\n" if more else "overlap: none\nquestion: do the recordings belong together? One ends before the other begins\nsound: no, 0 faults and 1 question\n"
+            text += f"overlap: not within what was read of the recordings\nsound: yes; of A by its first 1000000 frames{part}\n" if more else f"overlap: none\n{asking(*APART)}sound: no, 0 faults and 1 question\n"
             if name.endswith("pipe"):
                 with open(paths[0], "rb") as given:
                     piped = subprocess.Popen(["cat"], stdin=given, stdout=subprocess.PIPE)

@@ -18,7 +18,7 @@ from tests.analyser import table_of
 from tests.harness import EVERY, FAULT, PROGRAM, SUCCESS, USAGE, Case, difference, frame, header, record, run
 from tests.reference import HEADER, parse, record_of
 from tests.streams import at_terminal
-from tests.texts import TO_A_TERMINAL
+from tests.texts import MISUSE, TO_A_TERMINAL
 from tests.watching import TABLE, tap
 
 # Every line that standard error may have: the words are settled here, and nowhere else in these tests.
@@ -552,7 +552,7 @@ class Cut(Case):
                   "2027-02-29T00:00:00Z", "2106-02-07T06:28:16Z", str(2**32 * 10**9), "-1", "noon", "+", "++1", "+-1", "+1.", "+.5", "+1.0123456789", "1s", "1+1", "+ 1", "+1.2.3", "+1.+5", "+4294967296", "2027-01-15T08:00:12", "2027-01-15T08:00:12+01:00", "")]
         wrong += [("span", text) for text in ("", "2", "s", "ms", "2m", "2h", "2ns", "-1s", "+1s", "1.s", ".5s", "1.0000000001s", "1.0000001ms", "1.0001us", "2 s", "2S", "2ss",
                   "2mss", "1e3s", "1:00s", "1.2.3s", "4294967296s", "4294967296us")]
-        cases += [("--to and --span", [*whole, "--to", "1", "--span", "1s"], "--to and --span both end the span of time: give one of them")]
+        cases += [("--to and --span", [*whole, "--to", "1", "--span", "1s"], MISUSE["TwoEnds"])]
         for name, arguments, mentioned in cases:
             ran = run(arguments, stdin=subprocess.DEVNULL, stdout=subprocess.PIPE)
             self.case(f"cut: {name}", difference(ran, USAGE, lambda told: mentioned in told, b""))

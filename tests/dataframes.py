@@ -105,10 +105,10 @@ def path_slowly(first, rows):
             lines.append(words)
             latencies[words[3]] += [words[9]] if words[9] is not None else []
     came = [(row[0], row[1], row[3], *row[-1 - SWITCHES :]) for row in rows if row[4] == "came"]
-    words = ["category"] * 3
+    types = ["datetime64[ns, UTC]", "category", "int64", "Int32", "UInt8", *["category"] * 3]
     return {
         "transits": lines,
-        "types": ["datetime64[ns, UTC]", "category", "int64", "Int32", "UInt8", *words, "Int64", "Int64", "Int32"],
+        "types": [*types, "Int64", "Int64", "Int32"],
         "latencies": [[link, *of_latencies(some)] for link, some in sorted(latencies.items()) if some],
         "joined": [list(map(int, words)) for words in came],
     }

@@ -7,7 +7,7 @@ import subprocess
 
 from tests.harness import EVERY, FAULT, HERE, PROGRAM, SUCCESS, USAGE, Case
 from tests.harness import frame, header, record, run
-from tests.texts import COMMANDS, FULL, advice_on_ending
+from tests.texts import COMMANDS, FULL, UNWRITTEN, advice_on_ending
 
 STORING = "5,0 0 0 7,2 0 0 3,97 0 0 3,135 0 0 0,22 0 0 0,"
 ZEROS = " 0" * 16
@@ -132,7 +132,7 @@ class Debugging(Case):
             told = text.read().split("\n## Commands")[0]
         code = re.search(r"^echo '([^']*)' > number17$", told, re.MULTILINE).group(1)
         tap = header() + b"".join(record(i * 1_000_000, frame(5, 60, 16 + i)) for i in range(3))
-        begun = told[told.index("The session begins with the number of frames"):]
+        begun = told[re.search(r"The session\s+begins\s+with\s+the\s+number\s+of\s+frames", told).start():]
         named = re.compile(r"\*\*`([^`]*)`\*\*")
         commands = named.findall(begun)
         shown = "".join(block + "\n" for block in re.findall(r"^```\n(.*?)\n```$", begun.split("With `sub #1`")[0], re.MULTILINE | re.DOTALL))
@@ -163,7 +163,7 @@ class Debugging(Case):
         with open("/dev/full", "wb") as full:
             self.judge("replies on a full disk", run(command, input=b"tally\n", stdout=full), FAULT, "afdxmon: file -")
             ran = run([*command, "-v"], input=b"tally\n", stdout=full)
-            self.judge("replies on a full disk, in full", ran, FAULT, f"afdxmon: file -\nstandard output: {FULL}")
+            self.judge("replies on a full disk, in full", ran, FAULT, f"afdxmon: file -\nstandard output: {FULL}\n{UNWRITTEN}")
         shell = f"'{PROGRAM}' debug --filter '{sound}' --tap '{tap}'"
         for name, redirection in (("debug with closed standard input", "<&-"), ("debug with closed standard output", "< /dev/null >&-")):
             ran = subprocess.run(["bash", "-c", f"{shell} {redirection}"], stdout=subprocess.DEVNULL, stderr=subprocess.PIPE, timeout=60)

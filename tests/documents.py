@@ -1,11 +1,13 @@
 """The documents as texts: one width, links that lead somewhere, plain sentences, and each fault, ending, word, key and member of
-a JSON of the program in its page. Each option stands in afdxmon(1), which tests/manual.py compares with the help."""
+a JSON of the program in its page. Each option stands in afdxmon(1), which tests/manual.py compares with the help. The advice that the
+program gives says what to do, in the sources as in docs/MESSAGES.md."""
 import json
 import os
 import re
 import subprocess
 import tempfile
 
+from tests import texts
 from tests.guide import commands_of
 from tests.harness import PROGRAM, TOP, Case
 
@@ -13,12 +15,11 @@ WIDTH = 100
 LINK = re.compile(r"\]\(([^)\s]+)\)")
 # Faults of watch that the program refuses before a run, or that a run without threads can't meet.
 UNTOLD = {"5 Spawn", "8 Filters"}
-# The words of all pages of docs/, where bars of tables are none; sentences of more than LONG words, by page; and comments of
-# declarations that begin as none should. These numbers may only fall.
+# The words of all pages of docs/, where bars of tables are none; and sentences of more than LONG words, by page. These numbers
+# may only fall.
 WORDS = 26_000
 LONG = 30
 LONG_SENTENCES = {}
-ODD_COMMENTS = 166
 # Forms over which a reader stumbles, and what to write.
 RIDDLES = (
     (r"^(What|Whether|Who|Which|How|Of|That|Those) (?!is that\b)[^?]*$", "begin with who does something, or with the thing"),
@@ -30,7 +31,14 @@ RIDDLES = (
     (r"\bone of (eight|nine|ten) `|, a meeting\b|\btwo ghost members\b", "name them"),
     (r"\bhalv(es|ing) the (file|ledger)\b|\bfinds no constant fault\b|\bWithout one clock\b", "say how, and what follows"),
 )
-ODD_COMMENT = re.compile(r"//[/!] (What|Whether|Who|Those|Of those)\b")
+# How advice begins, and what a line of its own may be below it: a command.
+VERBS = (
+    "Add Assemble Choose Compare Compile Convert Copy Correct Divide Do End Give Judge Jump Keep Leave Let Look Make Name Raise Read Record Rename Report "
+    "Run Select Set Shift Shorten Sort Split Store Swap Synchronise Take Unpack Use Write"
+).split()
+SAYS_WHAT_TO_DO = re.compile(rf"({'|'.join(VERBS)})\b")
+COMMAND = re.compile(r"(editcap|tcpdump) ")
+ODD_COMMENT = re.compile(r"(//[/!]?|--+( -+)?) (What|Whether|Who|Those|Of those)\b")
 
 
 def pages():
@@ -130,13 +138,61 @@ def riddles(page):
 
 
 def odd_comments():
-    """Comments of declarations in the sources that begin with a question's word, and not with what the thing is or does."""
-    for where, _, names in os.walk(os.path.join(TOP, "crates")):
-        for name in sorted(names if "src" in where.split(os.sep) else ()):
-            lines = text_of(os.path.join(where, name)).splitlines() if name.endswith(".rt") else []
-            for before, line in zip(["", *lines], lines):
-                if ODD_COMMENT.match(line.lstrip()) and not before.lstrip().startswith(("///", "//!")):
-                    yield os.path.relpath(os.path.join(where, name), TOP)
+    """Comments in the sources, specifications and proofs that begin with a question's word, and not with what the thing is or does."""
+    for where, folders, names in os.walk(os.path.join(TOP, "crates")):
+        if "out" in folders:
+            folders.remove("out")
+        for name in sorted(name for name in names if name.endswith((".rt", ".antt"))):
+            lines = text_of(os.path.join(where, name)).splitlines()
+            for number, (before, line) in enumerate(zip(["", *lines], lines), 1):
+                if ODD_COMMENT.match(line.lstrip()) and not before.lstrip().startswith(("//", "--")):
+                    yield f"{os.path.relpath(os.path.join(where, name), TOP)}:{number}"
+
+
+def literals_of(*path):
+    """The string literals of a source with a blank in them, as the program has them."""
+    code = "\n".join(line for line in text_of(os.path.join("crates", *path)).splitlines() if not line.lstrip().startswith("//"))
+    for literal in re.findall(r'"((?:[^"\\]|\\.)*)"', code, re.S):
+        text = re.sub(r"\\\n\s*", "", literal).replace("\\n", "\n")
+        if re.search(r"\w \S", text):
+            yield text
+
+
+def advices():
+    """All advice in the sources: texts of one line or more."""
+    yield from literals_of("check_answer", "src", "advice.rt")
+    yield from literals_of("transit_answer", "src", "advice.rt")
+    yield from (text for text in literals_of("transit_answer", "src", "notes.rt") if text[0].isupper())
+    # What an option is to name stands without its verb.
+    yield from (f"Let --baseline-config name {text}" if text[0].islower() else text for text in literals_of("command_line", "src", "meaning.rt"))
+    yield from (text for text in literals_of("commands", "src", "files.rt") if text[0].isupper())
+    # These stand below a line that says what is wrong.
+    yield from (text.partition("\n  ")[2] for text in literals_of("command_line", "src", "misuse.rt"))
+    told = [*literals_of("messages", "src", "messages.rt"), *literals_of("command_line", "src", "exit.rt")]
+    yield from (text.partition("\n")[2] if "\n" in text else text for text in told if text[0].isupper() or "\n" in text)
+
+
+def vague(advice):
+    """What is wrong with an advice: its first line doesn't say what to do, a later one is neither that nor a command, or one is too long."""
+    first, *more = advice.splitlines() or [""]
+    if not SAYS_WHAT_TO_DO.match(first):
+        return f"{advice!r} doesn't begin with a verb"
+    odd = [line for line in more if not SAYS_WHAT_TO_DO.match(line) and not COMMAND.match(line)]
+    odd += [line for line in (first, *more) if len(line) > WIDTH]
+    return f"{odd[0]!r}" if odd else ""
+
+
+def advised_in(page):
+    """The cells of a page's tables that say what to do."""
+    column = None
+    for line in text_of(page).splitlines():
+        if not line.startswith("|"):
+            column = None
+        elif column is None:
+            heads = cells_of(line)
+            column = heads.index("what to do") if "what to do" in heads else -1
+        elif column >= 0 and not line.startswith("|--"):
+            yield cells_of(line)[column]
 
 
 def unlisted_pages():
@@ -189,8 +245,18 @@ class Documents(Case):
             self.case(f"{page}: no riddles", "; ".join(list(riddles(page))[:3]))
 
     def test_comments(self):
-        odd = list(odd_comments())
-        self.case(f"at most {ODD_COMMENTS} comments begin as a question does", "" if len(odd) <= ODD_COMMENTS else f"{len(odd)}, the last in {odd[-1]}")
+        self.case("no comment begins as a question does", ", ".join(list(odd_comments())[:3]))
+
+    def test_advice(self):
+        """Each advice says what to do, in lines of at most 100 columns; so do the page that lists faults and the texts of these tests."""
+        known = list(advices())
+        self.case("the sources have advice", "" if len(known) > 120 else f"{len(known)} texts")
+        copies = [*texts.ADVICE.values(), *texts.ENDINGS.values(), *texts.TAKEN.values(), *(text.partition("\n  ")[2] for text in texts.MISUSE.values())]
+        for name, told in (("the sources", known), ("tests/texts.py", copies)):
+            self.case(f"advice of {name} says what to do", "; ".join([fault for fault in map(vague, told) if fault][:3]))
+        cells = list(advised_in(os.path.join("docs", "MESSAGES.md")))
+        odd = [cell for cell in cells if not SAYS_WHAT_TO_DO.match(re.sub(r"^\[", "", cell))]
+        self.case("docs/MESSAGES.md says what to do", "; ".join(odd[:3]) if len(cells) > 40 else f"{len(cells)} cells")
 
     def test_facts(self):
         """What a reader looks up: of each kind where it stands in the program's sources, and in which page it has to stand."""

@@ -11,6 +11,7 @@ import shlex
 import subprocess
 
 from tests import flights
+from tests.check import questions_in
 from tests.flights import SECOND, WHOLE, flight_of, link, periodic, table_of, without
 from tests.harness import EVERY, PROGRAM, SUCCESS, Case, run
 from tests.report import numbers_fault
@@ -135,7 +136,7 @@ class Healthy(Case):
                (told["a"]["bytes"] == told["links"][0]["a"]["bytes"] == size, "one meaning"))
 
     def asked(self, name, answer, *words):
-        lines = [line for line in answer.splitlines() if line.startswith("question: ")]
+        lines = questions_in(answer)
         fault = "" if len(lines) == 1 and all(word in lines[0] for word in words) and "sound: no, 0 faults and 1 question" in answer else answer
         self.case(f"healthy: check: {name}", fault)
 

@@ -13,6 +13,7 @@ from tests.blocks import Blocks
 from tests.harness import EVERY, FAULT, PROGRAM, TOP, USAGE, Case, difference, ended, frame, read, recording, run
 from tests.reference import capture
 from tests.streams import ledger_of
+from tests.texts import ADVICE, ALSO, UNWRITTEN, WRITTEN_TWICE
 from tests.watching import TABLE, Desk, tap
 
 # A colour, a line of its own, a tab, a line's start, a C1 control, and a mark that turns the writing round.
@@ -52,7 +53,7 @@ class Hostile(Case):
         whole = capture(given, EVERY)
         for most in (0, 1, 24, 65535, 65536, 65537, len(whole) - 1):
             ran = run_limited(["capture", "--code", EVERY, big, "-o", out, "-v"], most)
-            told = f"afdxmon: watch 4 Write capture\n{out}: File too large (os error 27)"
+            told = f"afdxmon: watch 4 Write capture\n{out}: File too large (os error 27)\n{UNWRITTEN}"
             fault = difference(ran, FAULT, told, b"") or ("" if read(out) == whole[:most] else "the file isn't the first bytes")
             self.case(f"hostile: capture -o, files up to {most} bytes", fault)
         for name, before in (("capture > file", b""), ("capture >> file", b"x" * 1000)):
@@ -131,9 +132,9 @@ class Hostile(Case):
             (["watch", "--config", none, "--a", evil, "--ledger", out], "file --config", f"{shown}.none: {not_there}"),
             (["watch", "--config", config, "--a", none, "--ledger", out], "file --a", f"{shown}.none: {not_there}"),
             (["watch", "--config", evil, "--a", evil, "--ledger", out], "file --config", f"{shown}: not UTF-8 at byte 2"),
-            (["watch", "--config", config, "--a", evil, "--ledger", evil], "file --ledger", f"{shown}: it is the file of --a too"),
+            (["watch", "--config", config, "--a", evil, "--ledger", evil], "file --ledger", f"{shown}: {ALSO.format('a')}"),
             (["report", "--config", config, "--ledger", none], "file --ledger", f"{shown}.none: {not_there}"),
-            (["report", "--config", config, "--ledger", evil], "report 1 Ledger at 1 head", f"{shown}: no ledger of version 2"),
+            (["report", "--config", config, "--ledger", evil], "report 1 Ledger at 1 head", f"{shown}: {ADVICE['report 1 Ledger at 1 head']}"),
             (["capture", "--filter", evil, evil], "file --filter", f"{shown}: not UTF-8 at byte 2"),
             (["cut", "--ledger", ledger, "--a", none], "file --a", f"{shown}.none: {not_there}"),
             (["links", "--icd", none, "--a", evil], "file --icd", f"{shown}.none: {not_there}"),
@@ -197,7 +198,7 @@ class Hostile(Case):
         fifo, link = os.path.join(self.folder, "fifo"), os.path.join(self.folder, "link")
         os.mkfifo(fifo)
         os.symlink(fifo, link)
-        twice = "it is written already, and takes one output: name another file"
+        twice = WRITTEN_TWICE
         watching = ["watch", "--config", desk.paths["config"], "--filter", desk.paths["filter"], "--a", desk.paths["a"], "--b", desk.paths["b"]]
         for name, capture_to, ledger_to, manifest_to, option, told in (
             ("standard output", "/dev/stdout", "/dev/stdout", None, "--ledger", "/dev/stdout"),

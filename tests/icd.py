@@ -11,6 +11,7 @@ import subprocess
 
 from tests.harness import FAULT, SUCCESS, USAGE, Case, difference, frame, header, record, run, run_at_terminal
 from tests.links import GROUP, MS, START, copies_of, drafted, estimate, keys_text, seen_text, sent, sides_of
+from tests.texts import ADVICE, CORRECT_ICD, MISUSE
 
 HEAD = """\
 # A draft of the table of virtual links: what an ICD specifies, and what was seen in recordings where it leaves a value out.
@@ -241,7 +242,7 @@ class Icd(Case):
         ran = run(arguments, stdout=subprocess.PIPE)
         self.case(f"icd: {name}, to a script", difference(ran, FAULT, f"afdxmon: {line}", b""))
         ran = run_at_terminal(arguments, stdin=subprocess.DEVNULL)
-        whole = f"afdxmon: {line}\n" + "".join(f"{self.desk.path('icd.csv')}:{fault}\n" for fault in faults)
+        whole = f"afdxmon: {line}\n" + "".join(f"{self.desk.path('icd.csv')}:{fault}\n" for fault in faults) + CORRECT_ICD + "\n"
         told = (ran.returncode, ran.stderr) == (FAULT, whole)
         self.case(f"icd: {name}, at a terminal", "" if told else f"status {ran.returncode}, {ran.stderr!r}, not {whole!r}")
 
@@ -475,15 +476,15 @@ class Icd(Case):
         self.lists("a given head twice", "id,b,B\n7,64,64\n", "links 2 Icd at 1 head", ['1: column C, "B", is the second of smax: --column smax=HEAD says which is'], more=("--column", "smax=b"))
         self.lists("two synonyms", "VL,VL ID\n7,7\n", "links 2 Icd at 1 head", ['1: column B, "VL ID", is the second of id: --column id=HEAD says which is'])
         for why, more in (
-            ("--column is KEY=HEAD, each KEY once", ("--column", "id")),
-            ("--column is KEY=HEAD, each KEY once", ("--column", "ID=x")),
-            ("--column is KEY=HEAD, each KEY once", ("--column", "constant=x")),
-            ("--column is KEY=HEAD, each KEY once", ("--column", "=x")),
-            ("--column is KEY=HEAD, each KEY once", ("--column", "id=x", "--column", "id=y")),
+            (MISUSE["NoColumn"], ("--column", "id")),
+            (MISUSE["NoColumn"], ("--column", "ID=x")),
+            (MISUSE["NoColumn"], ("--column", "constant=x")),
+            (MISUSE["NoColumn"], ("--column", "=x")),
+            (MISUSE["NoColumn"], ("--column", "id=x", "--column", "id=y")),
         ):
             self.refuses(f"arguments {' '.join(more)}", "id\n7\n", lambda text, why=why: why in text, USAGE, more=more)
         ran = run(["links", "--a", self.desk.put("empty", header()), "--column", "id=x"], stdout=subprocess.PIPE)
-        self.case("icd: --column without --icd", difference(ran, USAGE, lambda text: "--column needs --icd, the document whose column it names" in text, b""))
+        self.case("icd: --column without --icd", difference(ran, USAGE, lambda text: MISUSE["NoDocument"] in text, b""))
 
     def test_names(self):
         """Names that no table holds: the draft has others, which differ, and says the documents' own."""
@@ -512,7 +513,7 @@ class Icd(Case):
 
     def test_told(self):
         """What is told of a document that is refused: all its faults, each with its line, its column and what stands there."""
-        none = "the first row has the columns' heads: id, and any of name, bag_ms, jitter_us, smax, integrity, redundancy, skew_us; none is id, and --column id=HEAD names it"
+        none = "no head is id; others may be name, bag_ms, jitter_us, smax, integrity, redundancy and skew_us"
         smax = "smax is an integer, 64 to 1518"
         ids = "id is an integer, 0 to 65535"
         flag = "a flag is true or false, yes or no, 1 or 0"
@@ -561,12 +562,12 @@ class Icd(Case):
             faults = [f"{line + 2}: the row has 1 cells, and the heads are 2" for line in range(count)]
             self.lists(f"{count} lengths and no identifiers", document, "links 2 Icd at 2 cells", faults + ([f"1: {none}"] if count < 20 else [" and 1 more fault"]))
         ran = run(["links", "--icd", "-", "--verbose"], input=b"id,smax\n5,0\n", stdout=subprocess.PIPE)
-        whole = f'afdxmon: links 2 Icd at 2 smax\nstandard input:2: column B, "smax", has "0": {smax}'
+        whole = f'afdxmon: links 2 Icd at 2 smax\nstandard input:2: column B, "smax", has "0": {smax}\n{CORRECT_ICD}'
         self.case("icd: faults of standard input, with --verbose", difference(ran, FAULT, whole, b""))
 
     def test_unreadable(self):
         """What a terminal is told of a document that can't be read: why, and what is needed."""
-        needs = "--icd needs comma-separated values, at most 16 MiB of UTF-8\n"
+        needs = ADVICE["file --icd"] + "\n"
         for name, path, why in (
             ("missing", self.desk.path("none"), "No such file or directory (os error 2)"),
             ("too long", self.desk.put("long.csv", b"#" * (2**24 + 1)), "it has 16777217 bytes"),
@@ -589,5 +590,5 @@ class Icd(Case):
             ran = run(["links", "--icd", path], stdout=subprocess.PIPE)
             self.case(f"icd: a {name} file", difference(ran, FAULT, "afdxmon: file --icd", b""))
         ran = run(["links"], stdout=subprocess.PIPE)
-        fits = "no recording is given: --a, --b or both name one, or --icd an ICD"
+        fits = MISUSE["NoLinks"]
         self.case("icd: nothing given", difference(ran, USAGE, lambda text: fits in text, b""))

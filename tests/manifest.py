@@ -17,7 +17,7 @@ from tests.harness import (
     EVERY, FAULT, PROGRAM, SUCCESS, TOP, USAGE, difference, frame, header, put, read, record, run, run_at_terminal,
 )
 from tests.reference import parse
-from tests.texts import FULL, OUTPUT, advice_on
+from tests.texts import FULL, MANIFEST, MISUSE, OUTPUT, UNWRITTEN, advice_on
 from tests.watching import TABLE, AtADesk, notes_on, tap
 
 START = 1_800_000_000 * 10**9
@@ -315,7 +315,7 @@ class Manifest(AtADesk):
     def test_usage(self):
         self.desk.lay(**INPUTS)
         ran = self.desk.watch("--digest")
-        told = "error: --digest needs --manifest, which has the digests\n"
+        told = f"error: {MISUSE['NoManifest']}\n"
         self.case("manifest: --digest alone", difference(ran, USAGE, lambda text: text.startswith(told), b""))
         ran = self.desk.watch("--manifest")
         self.case("manifest: --manifest without a file", difference(ran, USAGE, lambda text: "--manifest <FILE>" in text, b""))
@@ -326,7 +326,7 @@ class Manifest(AtADesk):
         for name, path, line, more in (
             ("in a directory that isn't there", nowhere, "file --manifest",
              f"{nowhere}: No such file or directory (os error 2)\n{OUTPUT.format('manifest')}\n"),
-            ("on a full disk", "/dev/full", "watch 4 Write manifest", f"/dev/full: {FULL}\n"),
+            ("on a full disk", "/dev/full", "watch 4 Write manifest", f"/dev/full: {FULL}\n{UNWRITTEN}\n"),
         ):
             for runner, rest in ((run, ""), (run_at_terminal, more)):
                 it = Run(self.desk, INPUTS)
@@ -403,7 +403,7 @@ class Manifest(AtADesk):
 
     def test_wrong_manifests(self):
         reports = Reports(self.desk, "--digest")
-        form = "no manifest: afdxmon watch writes one by --manifest"
+        form = advice_on("report 5 Manifest at")
         changed = reports.changed
 
         def refused(name, manifest, line, *told, **elsewhere):
@@ -441,16 +441,16 @@ class Manifest(AtADesk):
         other["inputs"]["config"]["sha256"] = digest(b"other")
         refused("another digest of the table", other, "report 5 Manifest table", table)
         path = os.path.join(self.desk.directory, "missing.json")
-        self.refused(reports, "no such file", path, "file --manifest", f"{path}: No such file or directory (os error 2)")
+        self.refused(reports, "no such file", path, "file --manifest", f"{path}: No such file or directory (os error 2)", MANIFEST)
         with open(changed, "wb") as out:
             out.write(b"{\xff}")
-        self.refused(reports, "not UTF-8", changed, "file --manifest", f"{changed}: not UTF-8 at byte 1")
+        self.refused(reports, "not UTF-8", changed, "file --manifest", f"{changed}: not UTF-8 at byte 1", MANIFEST)
         with open(changed, "wb") as out:
             out.write(b" " * (16777216 - len(read(reports.it.target))) + read(reports.it.target))
         self.case("manifest: report: 16777216 bytes", difference(reports.report(changed, "--json"), SUCCESS, ""))
         with open(changed, "ab") as out:
             out.write(b" ")
-        self.refused(reports, "16777217 bytes", changed, "file --manifest", f"{changed}: it has 16777217 bytes")
+        self.refused(reports, "16777217 bytes", changed, "file --manifest", f"{changed}: it has 16777217 bytes", MANIFEST)
 
     def test_other_files(self):
         """A table and a ledger that aren't the manifest's."""

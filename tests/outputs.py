@@ -7,14 +7,13 @@ import subprocess
 
 from tests.analyser import watch
 from tests.harness import EVERY, FAULT, PROGRAM, difference, frame, header, run, run_at_terminal
+from tests.texts import ALSO
 from tests.watching import OLDER, OPTIONS, TABLE, AtADesk, tap
 
 OUTPUTS = ("capture", "ledger")
 GIVEN = tap((0, frame(5, 60, 1)), (100, frame(5, 60, 2)))
 INPUTS = {"config": TABLE, "filter": EVERY, "a": GIVEN, "b": GIVEN}
 WRITTEN = watch(TABLE, EVERY, GIVEN, GIVEN)
-# The last line at a terminal, by the option that names the file too.
-ALSO = "{}: it is the file of --{} too: name another file to write\n"
 
 
 def standing(desk):
@@ -81,7 +80,7 @@ class Outputs(AtADesk):
         """An output that is another file is refused, in a pipe and at a terminal, and no file is another than before, but for
         those that are `made`, which are empty."""
         line, told = f"afdxmon: file --{output}", []
-        for runner, whole in ((run, line + "\n"), (run_at_terminal, line + "\n" + ALSO.format(elsewhere.get(output, self.desk.paths[output]), other))):
+        for runner, whole in ((run, line + "\n"), (run_at_terminal, line + f"\n{elsewhere.get(output, self.desk.paths[output])}: {ALSO.format(other)}\n")):
             expected = {**standing(self.desk), **dict.fromkeys(made, b"")}
             how = {} if runner is run_at_terminal else {"stdout": subprocess.PIPE}
             ran = runner(self.desk.arguments(**elsewhere), cwd=self.desk.directory, stdin=subprocess.DEVNULL, **how)

@@ -19,7 +19,7 @@ from tests.analyser import watch
 from tests.blocks import Blocks
 from tests.harness import EVERY, FAULT, LINK5, SUCCESS, USAGE, difference, frame, header, record, run, run_at_terminal
 from tests.reference import FILE_STARTS, HEADER, LAYOUTS, MAX_CAPTURED, capture, parse
-from tests.texts import ADVICE, UNREADABLE
+from tests.texts import ADVICE, AMONG, UNREADABLE
 from tests.watching import REASONS, TABLE, AtADesk
 
 MAGIC = {("<", 1): 0xA1B23C4D, (">", 1): 0xA1B23C4D, ("<", 1000): 0xA1B2C3D4, (">", 1000): 0xA1B2C3D4}
@@ -255,13 +255,12 @@ class Several(AtADesk):
         empty = os.path.join(self.desk.directory, "empty")
         open(empty, "w").close()
         by_time = f"afdxmon: order --a: by time they are {' '.join(paths)}"
-        order = "give the files of a recording in the order of their first timestamps"
-        reads = "--a needs a recording that can be read: a pcap or pcapng file, or a pipe"
+        order, once, reads = (ADVICE[line] for line in ("order --a", "repeated --a", "file --a"))
         missing = "No such file or directory (os error 2)"
         cases = {
             "another order": (swapped, by_time, f"{swapped[0]}: {order}"),
-            "a file twice": ([*paths, paths[0]], "afdxmon: repeated --a", f"{paths[0]}: give each file of a recording once"),
-            "a file twice by a link": ([*paths, link], "afdxmon: repeated --a", f"{link}: give each file of a recording once"),
+            "a file twice": ([*paths, paths[0]], "afdxmon: repeated --a", f"{paths[0]}: {once}"),
+            "a file twice by a link": ([*paths, link], "afdxmon: repeated --a", f"{link}: {once}"),
             "a file that isn't there": ([*paths, absent], "afdxmon: file --a", f"{absent}: {missing}\n{reads}"),
             "a list that isn't there": ([f"@{absent}"], "afdxmon: file --a", f"@{absent}: {missing}\n{reads}"),
             "a list without a path": ([f"@{empty}"], "afdxmon: file --a", f"@{empty}: the list has no path\n{reads}"),
@@ -422,7 +421,7 @@ class Several(AtADesk):
         paths = lay(self.desk.directory, "three", THREE)
         by_name = [paths[0], "/dev/stdin", paths[2]]
         self.judge("several: /dev/stdin between files", run(desk_command(by_name)[1:], input=THREE[1], stdout=subprocess.PIPE), SUCCESS, "", WHOLE)
-        line = "afdxmon: '-' can't be one of several files of a recording: name standard input /dev/stdin there"
+        line = f"afdxmon: {AMONG}"
         for words in (
             ["capture", "--code", EVERY],
             [*self.desk.arguments(a=None, b=None), "--a"],

@@ -12,7 +12,7 @@ from tests.analyser import watch
 from tests.harness import EVERY, FAULT, LINK5, PROGRAM, SUCCESS, USAGE, difference, ended, frame, read, recording, run
 from tests.harness import run_at_terminal, told_to
 from tests.reference import HEADER, capture
-from tests.texts import MISUSE, TAKEN, TO_A_TERMINAL, usage_error
+from tests.texts import ADVICE, ALSO, CLOSED, MISUSE, READ_TWICE, RECORDING_TOO, TAKEN, TO_A_TERMINAL, usage_error
 from tests.watching import OLDER, TABLE, AtADesk, notes_on, tap
 
 INPUTS = ("config", "filter", "a", "b")
@@ -200,7 +200,7 @@ class Streams(AtADesk):
             (["debug", "--filter", code, "--tap", a], "-", "<&-"),
         ):
             line, closed = line_of(option), "output" if redirection == ">&-" else "input"
-            for more, told in ([], line), (["-v"], f"{line}\nstandard {closed} is closed"):
+            for more, told in ([], line), (["-v"], f"{line}\n{CLOSED.format(closed)}"):
                 typed = " ".join(f"'{word}'" for word in [PROGRAM, *words, *more])
                 ran = ended(["bash", "-c", f"{typed} {redirection}"], stdin=subprocess.DEVNULL, stdout=subprocess.PIPE, stderr=subprocess.PIPE)
                 self.judge(" ".join([words[0], *more, option, redirection]), ran, FAULT, told, b"")
@@ -228,7 +228,7 @@ class Streams(AtADesk):
             (["capture", "--filter", code, "-o", out], "watch 3 Read A", "<&-"),
         ):
             stream, paths = PATHS[redirection]
-            told = "" if stream == "error" else f"{line_of(option)}\nstandard {stream} is closed"
+            told = "" if stream == "error" else f"{line_of(option)}\n{CLOSED.format(stream)}"
             for path in paths:
                 typed = " ".join(f"'{word}'" for word in [PROGRAM, *words, path, "-v"])
                 ran = ended(["bash", "-c", f"{typed} {redirection}"], stdin=subprocess.DEVNULL, stdout=subprocess.PIPE, stderr=subprocess.PIPE)
@@ -242,27 +242,26 @@ class Streams(AtADesk):
         fifo = os.path.join(self.desk.directory, "pipe")
         os.mkfifo(fifo)
         watching = ["watch", "--config", config, "--ledger", out]
-        twice = "it is read already, and can be read once: name another file"
         for words, option, told in (
-            ([*watching, "--a", a, "/dev/stdin", "--b", "-"], "--a", f"/dev/stdin: {twice}"),
-            ([*watching, "--a", "-", "--b", "/dev/stdin"], "--b", f"/dev/stdin: {twice}"),
-            ([*watching, "--a", "/dev/fd/0", "--b", "-"], "--b", f"standard input: {twice}"),
-            ([*watching, "--a", fifo, "--b", fifo], "--b", f"{fifo}: {twice}"),
-            (["watch", "--config", "/dev/stdin", "--a", "-", "--ledger", out], "--a", f"standard input: {twice}"),
-            (["check", "--config", config, "--a", "/dev/stdin", "--b", "/proc/self/fd/0"], "--b", f"/proc/self/fd/0: {twice}"),
-            (["report", "--config", config, "--ledger", "-", "--baseline", "/dev/stdin", "-o", out], "--baseline", f"/dev/stdin: {twice}"),
-            (["cut", "--ledger", "-", "--a", "/dev/stdin", "-o", out], "--a", f"/dev/stdin: {twice}"),
-            (["links", "--a", fifo, fifo], "--a", f"{fifo}: {twice}"),
-            (["capture", "--filter", "-", "/dev/stdin", "-o", out], "RECORDING", f"/dev/stdin: {twice}"),
-            (["debug", "--filter", code, "--tap", "/dev/stdin"], "--tap", f"/dev/stdin: {twice}"),
-            (["debug", "--source", "/dev/stdin", "--tap", a], "--source", f"/dev/stdin: {twice}"),
+            ([*watching, "--a", a, "/dev/stdin", "--b", "-"], "--a", f"/dev/stdin: {READ_TWICE}"),
+            ([*watching, "--a", "-", "--b", "/dev/stdin"], "--b", f"/dev/stdin: {READ_TWICE}"),
+            ([*watching, "--a", "/dev/fd/0", "--b", "-"], "--b", f"standard input: {READ_TWICE}"),
+            ([*watching, "--a", fifo, "--b", fifo], "--b", f"{fifo}: {READ_TWICE}"),
+            (["watch", "--config", "/dev/stdin", "--a", "-", "--ledger", out], "--a", f"standard input: {READ_TWICE}"),
+            (["check", "--config", config, "--a", "/dev/stdin", "--b", "/proc/self/fd/0"], "--b", f"/proc/self/fd/0: {READ_TWICE}"),
+            (["report", "--config", config, "--ledger", "-", "--baseline", "/dev/stdin", "-o", out], "--baseline", f"/dev/stdin: {READ_TWICE}"),
+            (["cut", "--ledger", "-", "--a", "/dev/stdin", "-o", out], "--a", f"/dev/stdin: {READ_TWICE}"),
+            (["links", "--a", fifo, fifo], "--a", f"{fifo}: {READ_TWICE}"),
+            (["capture", "--filter", "-", "/dev/stdin", "-o", out], "RECORDING", f"/dev/stdin: {READ_TWICE}"),
+            (["debug", "--filter", code, "--tap", "/dev/stdin"], "--tap", f"/dev/stdin: {READ_TWICE}"),
+            (["debug", "--source", "/dev/stdin", "--tap", a], "--source", f"/dev/stdin: {READ_TWICE}"),
         ):
             ran = run([*words, "-v"], input=b"", stdout=subprocess.PIPE)
             self.judge(f"{words[0]}: one pipe twice, {option}", ran, FAULT, f"afdxmon: file {option}\n{told}", b"")
         ours, theirs = socket.socketpair()
         with ours, theirs:
             ran = run([*watching, "--a", "-", "--b", "/dev/stdin", "-v"], stdin=theirs, stdout=subprocess.PIPE)
-        self.judge("watch: one socket twice", ran, FAULT, f"afdxmon: file --b\n/dev/stdin: {twice}", b"")
+        self.judge("watch: one socket twice", ran, FAULT, f"afdxmon: file --b\n/dev/stdin: {READ_TWICE}", b"")
         self.case("the outputs stand", self.desk.compared("capture", OLDER) or self.desk.compared("ledger", ledger_of(WHOLE)))
         ran = run(["watch", "--config", config, "--a", "/dev/null", "--b", "/dev/null", "--ledger", out], stdin=subprocess.DEVNULL, stdout=subprocess.PIPE)
         self.judge("watch: /dev/null twice", ran, FAULT, "afdxmon: watch 2 Header A 1 Short", b"")
@@ -322,7 +321,7 @@ class Streams(AtADesk):
             self.judge(f"capture: {name}", ran, FAULT, f"afdxmon: {line}", b"")
         for name, expected in (("in.pcap", RECORDING), ("code", LINK5.encode()), ("out.pcap", OLDER), ("absent", None)):
             self.case(f"capture: {name} stands after its faults", "" if self.files.left(name) == expected else "it has changed")
-        shown = f"{self.files.path('bad')}:1:4\nld @\n   ^\nno token begins with this byte\n"
+        shown = f"{self.files.path('bad')}:1:4\nld @\n   ^\n{ADVICE['asm 1 Text 1']}\n"
         ran = run_at_terminal(["capture", "--source", self.files.path("bad"), given], stdin=subprocess.DEVNULL)
         whole = "afdxmon: asm 1 Text 1 Character at 3\n" + shown
         self.case("capture: a source's fault is shown at a terminal", "" if (ran.returncode, ran.stderr) == (FAULT, whole) else f"{ran.returncode}, {ran.stderr!r}")
@@ -399,10 +398,10 @@ class Streams(AtADesk):
                 make(path, self.files.path(link))
                 names.append(self.files.path(link))
             flt = ["--source", paths["source"]] if kind == "source" else ["--filter", paths["filter"]]
-            also = "it is the recording too" if kind == "recording" else f"it is the file of --{kind} too"
+            also = RECORDING_TOO if kind == "recording" else ALSO.format(kind)
             for name in names:
                 command = ["capture", *flt, paths["recording"], "-o", name]
-                self.refused_twice(f"capture: the output is the {kind}", "file --output", f"{also}: name another file to write", command, name, stdin=subprocess.DEVNULL)
+                self.refused_twice(f"capture: the output is the {kind}", "file --output", also, command, name, stdin=subprocess.DEVNULL)
         command = [PROGRAM, "capture", "--code", EVERY]
         with open(paths["recording"], "rb") as given:
             ran = ended([*command, "-o", paths["recording"]], stdin=given, stdout=subprocess.PIPE, stderr=subprocess.PIPE)
@@ -461,7 +460,7 @@ class Streams(AtADesk):
         by_code = run(["debug", "--filter", self.files.write("code", LINK5), "--tap", given], input=b"disassemble\ntally\n", stdout=subprocess.PIPE)
         accepted = (len(capture(RECORDING, LINK5)) > 24) and by_code.stdout
         self.judge("debug --source is as --filter with its numeric form", ran, SUCCESS, "", accepted)
-        shown = f"{self.files.path('bad')}:1:4\nld @\n   ^\nno token begins with this byte\n"
+        shown = f"{self.files.path('bad')}:1:4\nld @\n   ^\n{ADVICE['asm 1 Text 1']}\n"
         ran = run_at_terminal(["debug", "--source", self.files.write("bad", "ld @"), "--tap", given], stdin=subprocess.DEVNULL)
         whole = "afdxmon: asm 1 Text 1 Character at 3\n" + shown
         self.case("debug: a source's fault is shown at a terminal", "" if (ran.returncode, ran.stderr) == (FAULT, whole) else f"{ran.returncode}, {ran.stderr!r}")

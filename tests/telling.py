@@ -8,8 +8,8 @@ from tests.analyser import watch
 from tests.blocks import CUSTOM, MOST_INTERFACES, Blocks
 from tests.harness import EVERY, FAULT, PROGRAM, SUCCESS, difference, frame, header, readable_program, record, run, run_at_terminal
 from tests.stamps import version_of_the_program
-from tests.texts import ABOUT, ADVICE, ALLOWED, CHECK_SEQUENCES, COUNTS, EXPRESSION, FULL, GZIP, LINK_KEYS, NO_DOCUMENT, NOT_NUMERIC
-from tests.texts import PROGRAM_HELP, SOURCE, TOP_KEYS, XZ, ZSTD, advice_on, advice_on_ending, help_of
+from tests.texts import ABOUT, ADVICE, ALLOWED, CHECK_SEQUENCES, CORRECT, COUNTS, DISPUTED, EXPRESSION, FULL, GZIP, LINK_KEYS, NO_DOCUMENT
+from tests.texts import NO_TEXT, NOT_NUMERIC, PROGRAM_HELP, SOURCE, TOP_KEYS, XZ, ZSTD, advice_on, advice_on_ending, help_of
 from tests.watching import LINK_5, TABLE, AtADesk
 
 MIB = 1 << 20
@@ -112,8 +112,8 @@ RUNS = (
     ({"b": header(link_type=101)}, {}, "watch 2 Header B 4 LinkType", "{b}: "),
     ({}, {"a": "directory"}, "watch 3 Read A", "{a}: " + DIRECTORY + "\n"),
     ({}, {"b": "directory"}, "watch 3 Read B", "{b}: " + DIRECTORY + "\n"),
-    ({}, {"capture": "/dev/full"}, "watch 4 Write capture", "{capture}: "),
-    ({}, {"ledger": "/dev/full"}, "watch 4 Write ledger", "{ledger}: "),
+    ({}, {"capture": "/dev/full"}, "watch 4 Write capture", "{capture}: " + FULL + "\n"),
+    ({}, {"ledger": "/dev/full"}, "watch 4 Write ledger", "{ledger}: " + FULL + "\n"),
 )
 BRAKE, FLAPS = 'link 0, id 5, name "brake"', 'link 1, id 6, name "flaps"'
 LINK_6 = LINK_5.replace("= 5", "= 6").replace("brake", "flaps")
@@ -121,7 +121,7 @@ LINK_6 = LINK_5.replace("= 5", "= 6").replace("brake", "flaps")
 OF_INLINE = "link = [{ id = 5, name = 'brake', bag_ms = 1, jitter_us = 0, smax = 200, integrity = true, redundancy = true, skew_us = 1 }"
 INLINE = "constant = 50331648\n" + OF_INLINE
 AT_BAG, AFTER_BAG = '{ id = 6, name = "flaps", ', ", jitter_us = 0, smax = 200, integrity = true, redundancy = true, skew_us = 1 }"
-# A table, its fault, what a terminal shows after the table's path, and the last line. TABLE has its link in line 3.
+# A table, its fault, what a terminal shows after the table's path, and by what to correct it. TABLE has its link in line 3.
 TABLES = (
     ("constant = \n", "1 Text", ":1:12: invalid value, expected a string, number, boolean, date-time, array or inline table\nconstant = \n           ^\n", NO_DOCUMENT),
     (TABLE + "[[link]\n", "1 Text", ":12:8: unclosed array table, expected `]]`\n[[link]\n       ^\n", NO_DOCUMENT),
@@ -276,12 +276,14 @@ class Telling(AtADesk):
         told += self.sessions()
         told += self.captures()
         told += self.reports()
+        told += self.switches()
+        told += [key for key in ADVICE if key.startswith("report 7 Transit")]  # report_transit.py has these
         told.append(self.twice("a draft", "links 1 Constant", "", ["links", "--a", self.desk.paths["a"], "--constant", "5"], stdin=subprocess.DEVNULL))
         told.append("check 1 Unsound")  # check.py has it, beside the answer
-        told += ["transit 1 Unsound", "transit 8 Selection"]  # transit.py has these
         told += ["file --manifest", "watch 4 Write manifest"]  # manifest.py has these
         told += ["order --a", "repeated --a"]  # several.py has these
         told.append("interfaces RECORDING")  # blocks.py has it
+        told.append("file --icd")  # icd.py has it
         told += [f"report 5 Manifest {what}" for what in ("at 1 form", "version", "table", "ledger")]
         told += self.little_memory()
         for key in ADVICE:
@@ -298,9 +300,9 @@ class Telling(AtADesk):
                 ("/* \u00e9 */ ret #0 \u00e9".encode()[:-1], "not UTF-8 at byte 16"),
                 (b" " * 16777217, "it has more than 16777216 bytes"),
             ):
-                self.twice("no text", "file -", "standard input: ", arguments, advice=reason, input=given)
+                self.twice("no text", "file -", f"standard input: {reason}\n", arguments, advice=NO_TEXT, input=given)
             folder = os.open(self.desk.directory, os.O_RDONLY)
-            self.twice("a directory as standard input", "file -", "standard input: ", arguments, advice=DIRECTORY, stdin=folder)
+            self.twice("a directory as standard input", "file -", f"standard input: {DIRECTORY}\n", arguments, advice=NO_TEXT, stdin=folder)
             os.close(folder)
 
     def runs(self):
@@ -312,8 +314,7 @@ class Telling(AtADesk):
             self.desk.lay(**{"config": TABLE, "filter": EVERY, "a": header(), "b": header(), **contents})
             paths = {option: places[place] for option, place in elsewhere.items()}
             lead = lead.format(**{**self.desk.paths, **paths})
-            advice = FULL if "4 Write" in line else None
-            told.append(self.twice("a run", line, lead, self.desk.arguments(**paths), advice=advice, stdin=subprocess.DEVNULL))
+            told.append(self.twice("a run", line, lead, self.desk.arguments(**paths), stdin=subprocess.DEVNULL))
         self.desk.lay(config=TABLE, filter=EVERY, a=header(), b=header())
         self.twice("a path that is relative", "file --a", "./x: " + MISSING + "\n", self.desk.arguments(a="./x"), cwd=self.desk.directory, stdin=subprocess.DEVNULL)
         for given, fault, advice in HEADS:
@@ -334,7 +335,7 @@ class Telling(AtADesk):
         """What is wrong with a table: the key in its line, what stands there and what is allowed."""
         for table, line, shown, advice in TABLES:
             self.desk.lay(config=table, filter=EVERY, a=header(), b=header())
-            self.twice("a table", f"config {line}", self.desk.paths["config"] + shown, self.desk.arguments(), advice=advice, stdin=subprocess.DEVNULL)
+            self.twice("a table", f"config {line}", self.desk.paths["config"] + shown, self.desk.arguments(), advice=CORRECT + advice, stdin=subprocess.DEVNULL)
 
     def refused_to(self):
         """Files that another user may not read or write."""
@@ -411,7 +412,7 @@ class Telling(AtADesk):
             told.append(self.twice("a report", line, f"{ledger}: ", ["report", "--config", self.desk.paths["config"], "--ledger", ledger], stdin=subprocess.DEVNULL))
         told += self.other_tables(head, ledger)
         arguments = ["report", "--config", self.desk.paths["config"], "--ledger", self.desk.directory]
-        told.append(self.twice("a report", "report 3 Read Ledger", f"{self.desk.directory}: ", arguments, advice=DIRECTORY, stdin=subprocess.DEVNULL))
+        told.append(self.twice("a report", "report 3 Read Ledger", f"{self.desk.directory}: {DIRECTORY}\n", arguments, stdin=subprocess.DEVNULL))
         return told
 
     def other_tables(self, head, ledger):
@@ -424,17 +425,27 @@ class Telling(AtADesk):
             with open(ledger, "w", encoding="ascii") as out:
                 out.write(head + text)
             line, _ = place.split()
-            advice = f"line {line}: " + words.format(table) + ": is it the table of the run?"
+            advice = f"line {line}: " + words.format(table) + "\n" + DISPUTED
             arguments = ["report", "--config", table, "--ledger", ledger]
             told.append(self.twice("a report", f"report 2 Contradiction at {place}", f"{ledger}: ", arguments, advice=advice, stdin=subprocess.DEVNULL))
             arguments = ["report", "--config", table, "--ledger", own, "--baseline", ledger]
             self.twice("a report of two flights", f"report 6 Baseline 2 Contradiction at {place}", f"{ledger}: ", arguments, advice=advice, stdin=subprocess.DEVNULL)
             arguments = ["report", "--config", table, "--ledger", "-"]
             self.twice("a report of a pipe", f"report 2 Contradiction at {place}", "standard input: ", arguments, advice=advice, input=(head + text).encode())
-            advice = f"line {line}: " + words.format("standard input") + ": is it the table of the run?"
+            advice = f"line {line}: " + words.format("standard input") + "\n" + DISPUTED
             arguments = ["report", "--config", "-", "--ledger", ledger]
             self.twice("a report by a piped table", f"report 2 Contradiction at {place}", f"{ledger}: ", arguments, advice=advice, input=TABLE.encode())
         return told
+
+    def switches(self):
+        """What is wrong with the recordings at a switch, whose answer goes to standard output, and with the links that are routed."""
+        self.desk.lay(config=TABLE, a=header(), b=header())
+        arguments = ["transit", *(word for option, of in (("config", "config"), ("before", "a"), ("after", "b")) for word in (f"--{option}", self.desk.paths[of]))]
+        whole = f"afdxmon: transit 1 Unsound\n{ADVICE['transit 1 Unsound']}\n"
+        ran = run([*arguments, "-v"], stdin=subprocess.DEVNULL, stdout=subprocess.PIPE)
+        self.case("a switch: transit 1 Unsound", difference(ran, FAULT, lambda told: told == whole))
+        told = self.twice("a switch", "transit 8 Selection routed at 0", "", [*arguments, "--routed", "70000"], stdin=subprocess.DEVNULL)
+        return ["transit 1 Unsound", told]
 
     def little_memory(self):
         """A process of 16 MiB: a text of 16 MB doesn't fit, nor does the stack of a thread, which has 8 MiB."""

@@ -4,88 +4,101 @@ These are the texts as they are meant to be, whole. The tests compare what the p
 """
 import re
 
-NOT_NUMERIC = "not the numeric form of a filter: tcpdump -y EN10MB -ddd 'ip and udp' prints one"
-EXPRESSION = "an expression, not its numeric form: tcpdump -y EN10MB -ddd 'ip and udp' prints that"
-SOURCE = "a filter's source, not its numeric form: afdxmon asm < in.asm prints that"
-NO_MEMORY = "the system has no memory left for it: end other programs, or raise its limit by ulimit -v"
-RECORDING = "--{} needs a recording that can be read: a pcap or pcapng file, or a pipe"
-OUTPUT = "--{} needs a file that can be written, in a directory that is there"
-UNREADABLE = "the recording can't be read: is it a file or a pipe?"
-FEW_INSTRUCTIONS = "a filter has at most 4096 instructions"
+NOT_NUMERIC = "Give the numeric form of a filter, as printed by: tcpdump -y EN10MB -ddd 'ip and udp'"
+EXPRESSION = "Compile this expression to its numeric form, as by: tcpdump -y EN10MB -ddd 'ip and udp'"
+SOURCE = "Assemble this source into its numeric form: afdxmon asm < in.asm"
+NO_MEMORY = "End other programs, or raise the limit by ulimit -v: the system has no memory left for it"
+RECORDING = "Let {} name a recording that can be read: a pcap or pcapng file, or a pipe"
+OUTPUT = "Let --{} name a file that can be written, in a directory that is there"
+LEDGER = "Let --ledger name a ledger that can be read: a file of watch, or a pipe"
+MANIFEST = "Let --manifest name a manifest that can be read: a file of watch, at most 16 MiB of UTF-8"
+UNREADABLE = "Give a recording that can be read: a file or a pipe"
+UNWRITTEN = "Make room on its disk, raise ulimit -f, or keep the reader of its pipe running"
+NO_TEXT = "Give a text of at most 16 MiB of UTF-8"
+FEW_INSTRUCTIONS = "Give a filter of at most 4096 instructions"
+DAMAGED_SECTION = "Record again: the section header of this pcapng file is damaged"
+# A ledger and a table that differ on a link, which is told before.
+DISPUTED = "Take the table of the run, and the ledger as watch wrote it"
 # The first words of a fault line after `afdxmon: `, and the line that a terminal shows last.
-DAMAGED_SECTION = "a pcapng file that is damaged in its section header: record again"
 ADVICE = {
-    "file --config": "--config needs a table of virtual links: a TOML document, at most 16 MiB of UTF-8",
-    "file --filter": "--filter needs a filter in the numeric form, at most 16 MiB of UTF-8",
-    "file --a": RECORDING.format("a"),
-    "file --b": RECORDING.format("b"),
-    "file --tap": RECORDING.format("tap"),
-    "file RECORDING": "RECORDING needs a recording that can be read: a pcap or pcapng file, or a pipe",
-    "file --source": "--source needs a filter's source, at most 16 MiB of UTF-8",
+    "file --config": "Let --config name a table of virtual links: a TOML document, at most 16 MiB of UTF-8",
+    "file --filter": "Let --filter name a filter in the numeric form, at most 16 MiB of UTF-8",
+    "file --a": RECORDING.format("--a"),
+    "file --b": RECORDING.format("--b"),
+    "file --tap": RECORDING.format("--tap"),
+    "file RECORDING": RECORDING.format("RECORDING"),
+    "file --source": "Let --source name a filter's source, at most 16 MiB of UTF-8",
+    "file --icd": "Let --icd name a document of comma-separated values, at most 16 MiB of UTF-8",
     "file --output": OUTPUT.format("output"),
     "file --capture": OUTPUT.format("capture"),
     "file --ledger": OUTPUT.format("ledger"),
     "file --manifest": OUTPUT.format("manifest"),
-    "interfaces": "choose one of these by name or number, as flight.pcapng:eth0; for a pcap file leave it out",
-    "order --a": "give the files of a recording in the order of their first timestamps",
-    "repeated --a": "give each file of a recording once",
-    "asm 1 Text 1": "no token begins with this byte",
-    "asm 1 Text 2": "not a number, or too large: 0x1f, 0b11, 017 and 31 are numbers",
-    "asm 1 Text 3": "the statement doesn't go on like this",
-    "asm 1 Text 4": "a word of the language can't be a label",
-    "asm 2": "there is no statement",
+    "interfaces": "Choose one of these by name or number, as flight.pcapng:eth0; of a pcap file none",
+    "order --a": "Give the files of a recording in the order of their first timestamps",
+    "repeated --a": "Give each file of a recording once",
+    "asm 1 Text 1": "Take out this byte, or end the comment by */: no word of the language begins so",
+    "asm 1 Text 2": "Write a number below 2^32, as 31, 0x1f, 0b11 or 017",
+    "asm 1 Text 3": "Correct the statement: it doesn't go on like this",
+    "asm 1 Text 4": "Rename the label: a word of the language can't be one",
+    "asm 2": "Write at least one statement",
     "asm 3": FEW_INSTRUCTIONS,
-    "asm 4": "an earlier statement has the same label",
-    "asm 5": "no statement has the label that the jump names",
-    "asm 6": "a jump only goes forward, to a later statement",
-    "asm 7": "a conditional jump skips at most 255 statements: use ja on the way",
+    "asm 4": "Rename the label: an earlier statement has the same",
+    "asm 5": "Give a later statement the label that the jump names: none has it",
+    "asm 6": "Jump forward, to a later statement: no jump goes back",
+    "asm 7": "Use ja on the way: a conditional jump skips at most 255 statements",
     "asm 8": NO_MEMORY,
     "debug 4": NO_MEMORY,
     "numeric 1": NOT_NUMERIC,
     "numeric 2": NOT_NUMERIC,
     "numeric 3": NOT_NUMERIC,
-    "numeric 4": "the first number says how many instructions follow, and another number of them does",
+    "numeric 4": "Correct the first number, which says how many instructions follow",
     "numeric 5": FEW_INSTRUCTIONS,
-    "load 1": "a filter has 1 to 4096 instructions",
-    "load 2": "not one of the 49 instructions of classic BPF, of Linux's extensions only 'len'",
-    "load 3": "a division by the constant 0",
-    "load 4": "a shift by 32 bits or more",
-    "load 5": "scratch memory has the slots M[0] to M[15]",
-    "load 6": "an offset is at most 2147483647: there are no negative offsets",
-    "load 7": "a jump leads past the last instruction",
-    "load 8": "the last instruction must be a return",
-    "load 9": "a scratch memory slot is read that some path to the instruction hasn't stored",
-    "watch 1": "--workers is 1 to 8",
-    "watch 2 Header A 1": "not a recording: it ends within its file header",
-    "watch 2 Header A 2": "neither a pcap nor a pcapng file; if compressed: gunzip",
-    "watch 2 Header A 3": "a pcap file of another version than 2.4: editcap -F nsecpcap in.pcap out.pcap writes 2.4",
-    "watch 2 Header B 4": "a pcap file of another link type than 1, Ethernet: record on an Ethernet interface",
+    "load 1": "Give a filter of 1 to 4096 instructions",
+    "load 2": "Use the 49 instructions of classic BPF; of Linux's extensions only 'len' is taken",
+    "load 3": "Divide by another constant than 0",
+    "load 4": "Shift by at most 31 bits",
+    "load 5": "Use the slots M[0] to M[15] of scratch memory: it has no others",
+    "load 6": "Give an offset of at most 2147483647: there are no negative offsets",
+    "load 7": "Shorten the jump: it leads past the last instruction",
+    "load 8": "Make the last instruction a return",
+    "load 9": "Store to the slot of scratch memory on each path to the instruction that reads it",
+    "watch 1": "Give 1 to 8 as --workers",
+    "watch 2 Header A 1": "Record again: the file ends within its header",
+    "watch 2 Header A 2": "Give a pcap or pcapng file, unpacked if it was compressed (gunzip)",
+    "watch 2 Header A 3": "Convert it to a pcap file of version 2.4: editcap -F nsecpcap in.pcap out.pcap",
+    "watch 2 Header B 4": "Record on an Ethernet interface: this pcap file has another link type than 1, Ethernet",
     "watch 2 Header A 5": DAMAGED_SECTION,
-    "watch 2 Header A 6": "a pcapng file of another major version than 1: record as pcapng 1.0 or pcap",
+    "watch 2 Header A 6": "Record as pcapng 1.0 or pcap: this pcapng file has another major version than 1",
     "watch 2 Header A 7": DAMAGED_SECTION,
     "watch 2 Header A 8": DAMAGED_SECTION,
     "watch 2 Header A 9": DAMAGED_SECTION,
     "watch 3 Read A": UNREADABLE,
     "watch 3 Read B": UNREADABLE,
-    "watch 4 Write capture": "the capture can't be written: is the disk full, or the pipe closed?",
-    "watch 4 Write ledger": "the ledger can't be written: is the disk full, or the pipe closed?",
-    "watch 4 Write manifest": "the manifest can't be written: is the disk full, or the pipe closed?",
+    "watch 4 Write capture": UNWRITTEN,
+    "watch 4 Write ledger": UNWRITTEN,
+    "watch 4 Write manifest": UNWRITTEN,
     "watch 7": NO_MEMORY,
-    "links 1 Constant": "--constant is a number of 32 bits with bits 24 and 25 set, as 0x03000000 or 50331648",
-    "transit 1 Unsound": "a question is open, so what was found may be wrong: the answer asks it",
-    "transit 8 Selection": "--routed needs identifiers 0 to 65535, as 301-305,42, or names of the table, as engine_*",
-    "check 1 Unsound": "a run with these inputs would not be sound: the answer says why",
-    "report 1 Ledger": "a line of no frame's form: was the ledger changed?",
-    "report 1 Ledger at 1 head": "no ledger of version 2: afdxmon watch writes one by --ledger",
-    "report 2 Contradiction at 2 link": "a link that the table doesn't have: is it the table of the run?",
-    "report 2 Contradiction at 2 copy": "a copy without its delivery before it: was the ledger or the table changed?",
-    "report 2 Contradiction at 3 counts": "counts that its frames' lines don't give: was the ledger or the table changed?",
-    "report 2 Contradiction at 2 verdict": "a verdict that the table's BAG, jitter and Smax can't give: is it the table of the run?",
-    "report 3 Read Ledger": "the ledger can't be read: is it a file or a pipe?",
-    "report 5 Manifest at": "no manifest: afdxmon watch writes one by --manifest",
-    "report 5 Manifest version": "a manifest of another version than 1",
-    "report 5 Manifest table": "another SHA-256 than the manifest has: is it the table of the run?",
-    "report 5 Manifest ledger": "another length or SHA-256 than the manifest has: is it the ledger of the run?",
+    "links 1 Constant": "Give --constant a number of 32 bits with bits 24 and 25 set, as 0x03000000 or 50331648",
+    "transit 1 Unsound": "Read the answer's questions: what was found may be wrong",
+    "transit 8 Selection": "Give --routed identifiers 0 to 65535, as 301-305,42, or names of the table, as engine_*",
+    "check 1 Unsound": "Read why in the answer: a run with these inputs would not be sound",
+    "report 1 Ledger": "Take the ledger as watch wrote it: the line has no frame's form",
+    "report 1 Ledger at 1 head": "Give a ledger of version 2, as afdxmon watch --ledger writes it",
+    "report 2 Contradiction at 2 link": "Take the table of the run: this one doesn't say the same of the link",
+    "report 2 Contradiction at 2 copy": "Take the run's ledger and table as they were: the copy has no delivery before it",
+    "report 2 Contradiction at 3 counts": "Take the run's ledger and table as they were: the frames' lines give other counts",
+    "report 2 Contradiction at 2 verdict": "Take the table of the run: the verdict can't come of this one's BAG, jitter and Smax",
+    "report 3 Read Ledger": LEDGER,
+    "report 7 Transit 1 Ledger at 1 head": "Give a ledger of transits, as afdxmon transit --ledger writes it",
+    "report 7 Transit 1 Ledger at 2 run": "Take the ledger as transit wrote it: the line has another form",
+    "report 7 Transit 1 Ledger at 7 order": "Take the ledger as transit wrote it: no such line stands there",
+    "report 7 Transit 1 Ledger at 2 total": "Run transit to its end: the ledger has no line total",
+    "report 7 Transit 2 Contradiction at 3 link": "Take the table of the run: this one doesn't say the same of the link",
+    "report 7 Transit 2 Contradiction at 4 counts": "Take the run's ledger and table as they were: the frames' lines give other counts",
+    "report 5 Manifest at": "Give a manifest, as afdxmon watch --manifest writes it",
+    "report 5 Manifest version": "Give a manifest of version 1",
+    "report 5 Manifest table": "Take the table of the run: the manifest has another SHA-256",
+    "report 5 Manifest ledger": "Take the ledger of the run: the manifest has another length or SHA-256",
 }
 # What a table may have at each key.
 ALLOWED = {
@@ -106,34 +119,39 @@ NO_DOCUMENT = "the table is a TOML document"
 TOP_KEYS = "the table has constant, late_us, filters and the links"
 LINK_KEYS = "a link has id, name, bag_ms, jitter_us, smax, integrity, redundancy and skew_us"
 COUNTS = "at most 4096 links and 7 filters"
+# What a terminal shows before what a table may have.
+CORRECT = "Correct it: "
+# The advice below the faults of an interface document, which are listed.
+CORRECT_ICD = "Correct these lines, or name the heads of columns by --column KEY=HEAD"
 # The advice on a file that is no recording, by the first bytes that it has.
-GZIP = "compressed by gzip: --b <(zcat {})"
-ZSTD = "compressed by zstd: --b <(zstdcat {})"
-XZ = "compressed by xz: --b <(xzcat {})"
+GZIP = "Unpack it (gzip) as it is read: --b <(zcat {})"
+ZSTD = "Unpack it (zstd) as it is read: --b <(zstdcat {})"
+XZ = "Unpack it (xz) as it is read: --b <(xzcat {})"
 # What the system says of an output that it takes no longer.
 FULL = "No space left on device (os error 28)"
-CHECK_SEQUENCES = "its frames have their check sequence: editcap -F nsecpcap -L -C -4 in.pcap out.pcap takes it off"
+CHECK_SEQUENCES = "Take off the frames' check sequences: editcap -F nsecpcap -L -C -4 in.pcap out.pcap"
 # The advice on a recording that ends early, by the words of its note.
-DAMAGED = "damaged there: editcap -F nsecpcap -r in.pcap out.pcap 1-{} keeps what is before"
-CHOOSE = "choose one by its number or name after the path, as flight.pcapng:0"
+DAMAGED = "Keep what is before the damage: editcap -F nsecpcap -r in.pcap out.pcap 1-{}"
 ENDINGS = {
-    "truncated within a record": "record again, or go on with the frames before it",
-    "timestamp out of order": "the frames from there on are left out: reordercap in.pcap out.pcap sorts them",
+    "truncated within a record": "Record again, or go on with the frames before it",
+    "timestamp out of order": "Sort its frames, since those from there on are left out: reordercap in.pcap out.pcap",
     "captured length over 262144 bytes": DAMAGED,
     "fraction of a second out of range": DAMAGED,
-    "too many frames": "the rest is left out: editcap -F nsecpcap -c 1000000000 in.pcap out.pcap splits it",
+    "too many frames": "Split it, since the rest is left out: editcap -F nsecpcap -c 1000000000 in.pcap out.pcap",
     "a block's length is wrong": DAMAGED,
     "the two lengths of a block differ": DAMAGED,
     "a packet or an option reaches beyond its block": DAMAGED,
     "a packet of an interface that isn't described": DAMAGED,
     "a section of another version": DAMAGED,
-    "a packet without a timestamp": "simple packets have no time: record with enhanced packets, as dumpcap does",
-    "timestamp before 1970 or after 2106": "the recorder's clock was wrong: the frames from there on are left out",
-    "packets of several interfaces, and none is chosen": CHOOSE,
-    "too many interfaces": "the rest is left out: a section has at most 256 interfaces",
-    "the chosen interface isn't there": "capinfos in.pcapng lists the interfaces of a file",
+    "a packet without a timestamp": "Record with enhanced packets, as dumpcap does: simple packets have no time",
+    "timestamp before 1970 or after 2106": "Set the recorder's clock, and record again: the frames from there on are left out",
+    "packets of several interfaces, and none is chosen": "Choose one by its number or name after the path, as flight.pcapng:0",
+    "too many interfaces": "Record at most 256 interfaces in a section: the rest is left out",
+    "the chosen interface isn't there": "Choose one of those that this lists: capinfos in.pcapng",
+    "another pcap file begins here": "Give the files apart, as --a FIRST SECOND: the rest of this one is left out",
+    "the next file has no header that is read": "Give a recording in its place: that file and those after it are left out",
 }
-DAMAGED_AT_ONCE = "the file is damaged at its first packet: record again"
+DAMAGED_AT_ONCE = "Record again: the file is damaged at its first packet"
 
 
 def advice_on_ending(note):
@@ -198,21 +216,22 @@ Example: keep the frames of virtual link 5
 Usage: afdxmon watch [OPTIONS] --config <FILE> --ledger <FILE> <--a <FILE>...|--b <FILE>...>
 
 Options:
-      --config <FILE>    The table of virtual links, a TOML document
-      --filter <FILE>    The filter in the numeric form, as `afdxmon asm` prints it
-      --a <FILE>         The recording of network A, pcap or pcapng files, or @LIST of paths
-      --b <FILE>         The recording of network B, pcap or pcapng files, or @LIST of paths
-      --capture <FILE>   The capture to write, a nanosecond pcap file
-      --ledger <FILE>    The ledger of verdicts to write
-      --manifest <FILE>  The manifest to write: a JSON text of what the run was of
-      --digest           Take the SHA-256 of recordings and outputs into the manifest
-      --workers <N>      The number of workers, 1 to 8 [default: 2]
-      --late-us <N>      Take timestamps out of order by N microseconds, in place of the table's late_us
-      --quiet            Leave out progress and summary at a terminal
-      --strict           End with status 3 where a recording ends early, not with 0
-      --pcapng           Write the capture as pcapng, with verdicts as packet comments
-  -v, --verbose          Tell standard error, whatever it is, what a terminal is told but progress
-  -h, --help             Print help
+      --config <FILE>     The table of virtual links, a TOML document
+      --filter <FILE>     The filter in the numeric form, as `afdxmon asm` prints it
+      --a <FILE>          The recording of network A, pcap or pcapng files, or @LIST of paths
+      --b <FILE>          The recording of network B, pcap or pcapng files, or @LIST of paths
+      --capture <FILE>    The capture to write, a nanosecond pcap file
+      --ledger <FILE>     The ledger of verdicts to write
+      --manifest <FILE>   The manifest to write: a JSON text of what the run was of
+      --digest            Take the SHA-256 of recordings and outputs into the manifest
+      --workers <N>       The number of workers, 1 to 8 [default: 2]
+      --late-us <N>       Take timestamps out of order by N microseconds, in place of the table's late_us
+      --quiet             Leave out progress and summary at a terminal
+      --strict            End with status 3 where a recording ends early, not with 0
+      --resume-after-cut  Go on with the next file of a recording behind one that is cut or damaged
+      --pcapng            Write the capture as pcapng, with verdicts as packet comments
+  -v, --verbose           Tell standard error, whatever it is, what a terminal is told but progress
+  -h, --help              Print help
 
 A network whose recording isn't given has no frames. Without --filter no frame is accepted, and
 --capture can't be given. '-' is standard input, or standard output.
@@ -239,11 +258,14 @@ Example: the state before the filter's first three instructions on frame 0
 """,
     "cut": r"""
 Usage: afdxmon cut [OPTIONS] --ledger <FILE> <--a <FILE>...|--b <FILE>...|--ledger-only>
+       afdxmon cut [OPTIONS] --ledger <FILE> <--before <FILE>...|--after <FILE>...>
 
 Options:
       --ledger <FILE>   The ledger of the recordings
       --a <FILE>        The recording of network A, pcap or pcapng files, or @LIST of paths
       --b <FILE>        The recording of network B, pcap or pcapng files, or @LIST of paths
+      --before <FILE>   By a ledger of transits: the recording at the port in
+      --after <FILE>    By a ledger of transits: the recording at the port out
       --config <FILE>   The table of virtual links: --link may then have their names
       --link <LIST>     Virtual links, as '301-305,42' or 'engine_*'; '*' stands for any letters
       --network <A|B>   The network
@@ -265,6 +287,9 @@ a file. Lines of a network whose recording isn't given are passed over. A TIME i
 '2027-01-15T08:00:12.119534506Z', the '08:00:12.1195' or '08:00' of the recording's day in UTC,
 '+12.1195' or '+12s' after the ledger's first frame, or nanoseconds since 1970. A --to earlier in
 the day than --from is one of the next day. '-' is standard input, or standard output.
+
+By a ledger of transits, as `afdxmon transit --ledger` writes it, --verdict takes words of its
+field 8 or 'faults', and each frame that went in has the one that came out of it beside it.
 
 Example: keep the frames that policing discarded
   afdxmon cut --ledger flight.ledger --a a.pcap --b b.pcap --verdict excess -o excess.pcap
@@ -301,6 +326,7 @@ Options:
       --manifest <FILE>         The manifest of the run, as `afdxmon watch` writes it
       --baseline <FILE>         The ledger of an earlier flight to compare with
       --baseline-config <FILE>  The table of that flight, where it was another one
+      --transit <FILE>          A ledger of transits to tell of too, as `afdxmon transit` writes it
       --from <TIME>             The first moment of what is told
       --to <TIME>               The last moment
       --link <LIST>             The virtual links, as '301-305,42' or 'engine_*'
@@ -390,15 +416,24 @@ def help_of(command):
 
 # What clap's error says of arguments that don't go together.
 MISUSE = {
-    "NoFilter": "no filter is given",
-    "TwoFilters": "more than one filter is given",
-    "NoRecording": "no recording is given: --a, --b or both name one",
-    "NoLinks": "no recording is given: --a, --b or both name one, or --icd an ICD",
-    "Unfiltered": "--capture needs --filter, which says what frames it is to have",
-    "Uncaptured": "--pcapng needs --capture: it says how the capture is written",
-    "NoLateness": "--late-us is a number of microseconds, 0 to 1000000, and of capture and debug also any",
-    "Unordered": "--late-us any is for capture and debug: watch and transit put the frames of both recordings in order",
-    "NoPackets": "--pcapng says how packets are written, and --ledger-only leaves them out",
+    "NoFilter": "no filter is given\n  Name one by --filter or --source",
+    "TwoFilters": "more than one filter is given\n  Give one of them",
+    "NoRecording": "no recording is given\n  Name one by --a, --b or both",
+    "NoLinks": "no recording is given\n  Name one by --a, --b or both, or an ICD by --icd",
+    "NoColumn": "--column isn't KEY=HEAD, or has a KEY twice\n  Give as KEY id, name, bag_ms, jitter_us, smax, integrity, redundancy or skew_us",
+    "NoDocument": "--column is of a document, and none is given\n  Name it by --icd",
+    "Unfiltered": "--capture has no filter, which says of what frames it is\n  Name one by --filter",
+    "NoNetwork": "--network is neither A nor B\n  Give A or B",
+    "NoKind": "--expected has a kind that isn't known\n  Give arp, ipv4, ipv6, lldp, ptp, 802.1q, 802.3 or EtherTypes as 0x88f7, with commas",
+    "NoLevel": "--fail-on is neither trouble nor notice\n  Give one of them",
+    "NoPolicing": "--police is neither bytes nor frames\n  Give one of them",
+    "Uncaptured": "--pcapng says how a capture is written, and none is\n  Name one by --capture",
+    "NoManifest": "--digest has no manifest to write digests to\n  Name one by --manifest",
+    "NoBaseline": "--baseline-config is the table of a baseline, and none is given\n  Name its ledger by --baseline",
+    "NoLateness": "--late-us is no number of microseconds, 0 to 1000000\n  Give one, or for capture and debug any",
+    "Unordered": "--late-us any is for capture and debug: others put frames of two recordings in order\n  Give a number of microseconds, 0 to 1000000",
+    "NoPackets": "--pcapng says how packets are written, and --ledger-only leaves them out\n  Give one of them",
+    "TwoEnds": "--to and --span both end the span of time\n  Give one of them",
 }
 
 
@@ -410,10 +445,18 @@ def usage_error(command, message):
 
 # The last line at a terminal where a standard stream is named twice, by what has it already.
 TAKEN = {
-    "commands": "the commands are read from standard input: name a file",
+    "commands": "Name a file: the commands are read from standard input",
     **{
-        name: f"'-' stands for --{name} already: name a file"
+        name: f"Name a file: '-' stands for --{name} already"
         for name in ("config", "filter", "source", "a", "b", "capture", "ledger", "manifest", "icd")
     },
 }
-TO_A_TERMINAL = "afdxmon: packets aren't written to a terminal: name a file by -o (of watch by --capture), or use a pipe"
+TO_A_TERMINAL = "afdxmon: packets aren't written to a terminal\nName a file by -o (of watch by --capture), or use a pipe"
+# What stands before the advice on a file that is one of several, and which name it has there.
+AMONG = "'-' can't be one of several files of a recording\nName standard input /dev/stdin there"
+# What a terminal is told of an output that another option names, of a closed stream, and of a pipe that two options name.
+ALSO = "Name another file to write: this is that of --{} too"
+RECORDING_TOO = "Name another file to write: this is the recording too"
+CLOSED = "Name a file: standard {} is closed"
+READ_TWICE = "Name another file: this one is read already, and can be read once"
+WRITTEN_TWICE = "Name another file: this one is written already, and takes one output"

@@ -9,24 +9,25 @@ import random
 import re
 import struct
 import subprocess
-import sys
+import threading
 import zlib
 
 from tests.harness import Case, FAULT, PROGRAM, SUCCESS, USAGE, command_of, frame, header, put, read, record, run
-from tests.transit_flights import BOUND, FAULTS, START, transit_flight
+from tests.long import peak_of
+from tests.transit_cases import commit, random_case, table
+from tests.transit_flights import BOUND, FAULTS, ROUTED, START, border_flight, leaking, transit_flight
 from tests.transit_reference import AFTER, BEFORE, Options, judge
 
 MS, US, SECOND = 10**6, 10**3, 10**9
-JUDGED, FLIGHTS = 150, 40
-LINK = 'id = {0}\nname = "link_{0}"\nbag_ms = {1}\njitter_us = {2}\nsmax = 200\nintegrity = true\nredundancy = true\nskew_us = 1000\n'
+# How many cases are judged: the first ones have the same seeds at each commit. A group of them is told as
+# one.
+JUDGED, FIXED, GROUP = int(os.environ.get("JUDGED", "2000")), 200, 50
+FLIGHTS = 40
+BOUNDED = ("--bound-us", str(BOUND // US))
+# Seconds within which the longest recordings are read.
+PATIENCE = 300
 UNSOUND = "afdxmon: transit 1 Unsound"
 FAULT_WORDS = ("dropped", "lax", "leak", "slow", "overtaken", "changed", "twice", "new")
-
-
-def table(links, late=0):
-    """A table of links, each as (number, BAG in ms, jitter in us)."""
-    head = f"constant = 50331648\nlate_us = {late}\n"
-    return head + "".join(f"\n[[link]]\n{LINK.format(*link)}" for link in links)
 
 
 def pcap(frames):
@@ -47,46 +48,18 @@ def options_of(options):
     return [str(word) for word in words]
 
 
-def random_case(seed):
-    """Two short recordings of few links with few different frames, many of them lost, changed, repeated, late or cut: a table, both
-    recordings and the options."""
-    chance = random.Random(seed)
-    links = [(number, chance.choice((1, 2, 4)), chance.choice((0, 500))) for number in range(1, chance.randint(2, 4))]
-    step = chance.choice((50 * US, 200 * US, MS))
-    options = Options(
-        within=chance.choice((1, 2, 5)) * MS, early=chance.choice((0, 1)) * MS, shift=chance.choice((0, 0, 70_000, -70_000)),
-        bound=chance.choice((None, 300 * US)), grace=chance.choice((0, 1000, 100_000)), frames=chance.random() < 0.3,
-        routed=chance.choice((None, None, [1], [1, 2])), network=chance.choice("-AB"),
-    )
-    before, after, at = [], [], 10 * MS
-    for _ in range(chance.randint(0, 50)):
-        at += chance.randrange(0, 3) * step
-        size = chance.choice((60, 60, 100, 196, 197, 59))
-        data = frame(chance.choice((1, 1, 2, 3, 9)), size, chance.randrange(1, 4))
-        if chance.random() < 0.05:
-            data = b"\x02" + data[1:]
-        before.append((at, data))
-        out, came = chance.random(), at + chance.randrange(0, 8) * 100 * US - chance.choice((0, 0, 300 * US)) - options.shift
-        if out < 0.15:
-            continue
-        if out < 0.3:
-            data = data[:30] + b"\x01" + data[31:]
-        after.append((came, data))
-        if out > 0.9:
-            after.append((came + chance.randrange(0, 4) * MS, data))
-    for _ in range(chance.randint(0, 4)):
-        after.append((chance.randrange(5 * MS, at + 5 * MS), frame(chance.choice((1, 3, 4)), 64, chance.randrange(1, 4))))
-    return table(links, chance.choice((0, 0, 500))), pcap(before), pcap(sorted(after)), options
-
-
 class Transit(Case):
     """What the parts below share."""
 
-    def given(self, config, before, after, *more, name=""):
-        """The words of a run over these recordings."""
-        paths = [put(self.folder, f"{name}{of}", data) for of, data in
-                 (("table.toml", config), ("before.pcap", before), ("after.pcap", after))]
-        return ["transit", "--config", paths[0], "--before", paths[1], "--after", paths[2], *more]
+    def given(self, config, before, after, *more):
+        """The words of a run over these recordings, each the bytes of one file or a list of those of
+        several."""
+        words = ["transit", "--config", put(self.folder, "table.toml", config)]
+        for side, files in (("before", before), ("after", after)):
+            files = files if isinstance(files, list) else [files]
+            names = [f"{side}.pcap", *(f"{side}{number}.pcap" for number in range(1, len(files)))]
+            words += [f"--{side}", *(put(self.folder, *each) for each in zip(names, files))]
+        return [*words, *more]
 
     def transit(self, config, before, after, *more):
         return run(self.given(config, before, after, *more), stdout=-1)
@@ -119,43 +92,89 @@ def first_difference(got, wanted):
 class Judge(Transit):
     """Ledgers whole, beside the slow judge's."""
 
+    def differs(self, case):
+        """How the ledger of a case differs from the judge's."""
+        judged = judge(case.config, case.before, case.after, case.options)
+        ran, ledger = self.ledger(case.config, *case.files, *options_of(case.options))
+        fault = first_difference(ledger, judged.lines + judged.summary)
+        is_unsound = UNSOUND in ran.stderr.decode().split("\n")
+        if ran.returncode != (FAULT if is_unsound else SUCCESS):
+            fault = f"status {ran.returncode}: {ran.stderr!r}"
+        return fault and f"{fault}; the command: {command_of(ran)}"
+
     def test_random(self):
-        for seed in range(JUDGED):
-            config, before, after, options = random_case(seed)
-            judged = judge(config, before, after, options)
-            ran, ledger = self.ledger(config, before, after, *options_of(options))
-            fault = first_difference(ledger, judged.lines + judged.summary)
-            if ran.returncode not in (SUCCESS, FAULT):
-                fault = f"status {ran.returncode}: {ran.stderr!r}"
-            self.case(f"random recordings {seed}", fault and f"{fault}; the command: {command_of(ran)}")
+        """Generated recordings; from some on their seeds change with the commit, so each commit has
+        others."""
+        for first in range(0, JUDGED, GROUP):
+            name = f"{'SEED=' + commit() + ' ' if first >= FIXED else ''}recordings {first}"
+            for number in range(first, min(first + GROUP, JUDGED)):
+                fault = self.differs(random_case(number if number < FIXED else f"{commit()} {number}"))
+                if fault:
+                    fault = f"recordings {number}: {fault}"
+                    break
+            self.case(f"{name} to {number}", fault)
 
 
 class ModelSwitch(Transit):
     """Each fault that is planted is told, and none where the switch is right."""
 
-    def flight(self, name, seed, faults):
-        flight = transit_flight(seed, faults)
-        ran, ledger = self.ledger(flight.config, flight.before, flight.after, "--bound-us", str(BOUND // US))
+    def flight(self, name, flight, *more):
+        """A flight of which each outcome is told as the model has it."""
+        ran, ledger = self.ledger(flight.config, flight.before, flight.after, *more)
         got = {}
         for line in ledger.decode().split("\n"):
             words = line.split(" ")
             if words[0].isdigit():
                 got[words[1], int(words[2])] = words[7]
         wrong = {key: (got.get(key), word) for key, word in flight.outcomes.items() if got.get(key) != word}
-        told = ran.returncode == SUCCESS and not ran.stderr
-        fault = f"of (side, number): told, planted: {wrong}" if wrong else "" if told else f"{ran.returncode}: {ran.stderr!r}"
+        some = dict(list(wrong.items())[:3])
+        fault = f"{len(wrong)} others of (side, number): told, planted: {some}" if wrong else ""
+        if ran.returncode != SUCCESS or ran.stderr:
+            fault = f"status {ran.returncode}: {ran.stderr!r}"
         self.case(name, fault and f"{fault}; the command: {command_of(ran)}")
 
     def test_planted(self):
-        for seed in range(FLIGHTS):
-            self.flight(f"all faults planted, flight {seed}", seed, FAULTS)
+        for seed in (*range(FLIGHTS // 2), *(f"{commit()} {number}" for number in range(FLIGHTS // 2))):
+            self.flight(f"all faults planted, flight {seed}", transit_flight(seed, FAULTS), *BOUNDED)
         for fault in FAULTS:
-            self.flight(f"{fault} planted alone", 1000, (fault,))
+            self.flight(f"{fault} planted alone", transit_flight(1000, (fault,)), *BOUNDED)
+
+    def test_leaks(self):
+        """Links that come out of a port that isn't theirs."""
+        for seed in range(FLIGHTS // 4):
+            flight = transit_flight(seed, FAULTS)
+            leaks = random.Random(seed).sample(ROUTED, seed % 3 + 1)
+            items = [f"link_{link}" if link % 2 else str(link) for link in ROUTED if link not in leaks]
+            flight = flight._replace(outcomes=leaking(flight, leaks))
+            self.flight(f"leaks of {leaks}, flight {seed}", flight, "--routed", ",".join(items), *BOUNDED)
+
+    def test_border(self):
+        """Senders at the border of their accounts, taps off by up to 60 ns, and the default grace: each
+        frame too many that is passed is told, each that fits and is dropped, and nothing of a switch that
+        is right."""
+        for number in range(FLIGHTS // 4):
+            seed = number if number % 2 else f"{commit()} {number}"
+            for faults in ((), ("lax", "dropped")):
+                for police in ("bytes", "frames"):
+                    flight = border_flight(seed, faults, police == "frames")
+                    enough = not faults or {"lax", "dropped"} <= {does for does, _ in flight.planted}
+                    name = f"at the border, {' and '.join(faults) or 'right'}, of {police}, flight {seed}"
+                    self.flight(name, flight, "--police", police)
+                    self.case(f"{name}: its faults are there", "" if enough else "none is planted")
+
+    def test_without_grace(self):
+        """Without a grace a right switch is blamed at the border, as the page says: so the flights above
+        have a border."""
+        flight = border_flight(1, (), False)
+        ran, answer = self.answer(flight.config, flight.before, flight.after, "--grace-us", "0")
+        kinds = set(answer.get("kinds", {}))
+        fault = "" if {"lax", "dropped"} <= kinds else f"{kinds}; the command: {command_of(ran)}"
+        self.case("a right switch without a grace", fault)
 
     def test_right(self):
         for seed in range(FLIGHTS // 2):
             flight = transit_flight(seed, ())
-            ran, answer = self.answer(flight.config, flight.before, flight.after, "--bound-us", str(BOUND // US))
+            ran, answer = self.answer(flight.config, flight.before, flight.after, *BOUNDED)
             told = {kind: of["frames"] for kind, of in answer.get("kinds", {}).items()}
             fault = "" if ran.returncode == SUCCESS and told == {} and answer["questions"] == [] else f"{told} {answer.get('questions')}"
             self.case(f"a right switch {seed}", fault and f"{fault}; the command: {command_of(ran)}")
@@ -254,17 +273,33 @@ def slow_frames(after):
 class CommandLine(Transit):
     """Options at their bounds and beyond, files, and what is left after a fault."""
 
-    BOUNDS = {"--within-us": (1, 10_000_000), "--early-us": (0, 1_000_000), "--bound-us": (0, 10_000_000), "--grace-us": (0, 1_000_000),
-              "--shift-ns": (-(2**63), 2**63 - 1), "--late-us": (0, 1_000_000)}
+    # Of each option its bounds, and what it is to the judge, which counts in nanoseconds.
+    BOUNDS = {
+        "--within-us": (1, 10_000_000, "within"), "--early-us": (0, 1_000_000, "early"),
+        "--bound-us": (0, 10_000_000, "bound"), "--grace-us": (0, 1_000_000, "grace"),
+        "--shift-ns": (-(2**63), 2**63 - 1, "shift"), "--late-us": (0, 1_000_000, None),
+    }
+
+    def at_bound(self, option, value, judged, ins, outs):
+        """A run with a value of an option: its ledger is the judge's."""
+        given = {judged: value if judged == "shift" else value * US} if judged else {}
+        config = PLAIN if judged else PLAIN.replace("late_us = 0", f"late_us = {value}")
+        expected = judge(config, ins, outs, Options(**given))
+        ran, ledger = self.ledger(PLAIN, ins, outs, option, str(value))
+        fault = first_difference(ledger, expected.lines + expected.summary)
+        if ran.returncode not in (SUCCESS, FAULT) or not ran.stdout:
+            fault = f"status {ran.returncode}: {ran.stderr!r}"
+        self.case(f"{option} {value}", fault and f"{fault}; the command: {command_of(ran)}")
 
     def test_bounds(self):
-        before, after = plain_flight(count=40)
-        ins, outs = pcap(before), pcap(after)
-        for option, (least, most) in self.BOUNDS.items():
+        before, after = plain_flight(count=120)
+        after[40:42] = after[41:39:-1]
+        del after[60:63]
+        ins, outs = pcap(before), pcap(sorted(after))
+        for option, (least, most, judged) in self.BOUNDS.items():
+            recorded = pcap(after) if option == "--late-us" else outs
             for value in (least, most):
-                ran = self.transit(PLAIN, ins, outs, option, str(value))
-                fault = "" if ran.returncode in (SUCCESS, FAULT) and ran.stdout else f"status {ran.returncode}: {ran.stderr!r}"
-                self.case(f"{option} {value}", fault and f"{fault}; the command: {command_of(ran)}")
+                self.at_bound(option, value, judged, ins, recorded)
             for value in (least - 1, most + 1, "x", ""):
                 ran = self.transit(PLAIN, ins, outs, option, str(value))
                 fault = "" if ran.returncode == USAGE and not ran.stdout else f"status {ran.returncode}: {ran.stderr!r}"
@@ -330,10 +365,10 @@ class CommandLine(Transit):
 
     def test_json(self):
         """The answer's numbers are the ledger's."""
-        for seed in range(0, JUDGED, 5):
-            config, before, after, options = random_case(seed)
-            _, ledger = self.ledger(config, before, after, *options_of(options))
-            ran, answer = self.answer(config, before, after, *options_of(options))
+        for seed in range(60):
+            case = random_case(seed)
+            _, ledger = self.ledger(case.config, *case.files, *options_of(case.options))
+            ran, answer = self.answer(case.config, *case.files, *options_of(case.options))
             total = ledger.decode().rstrip("\n").split("\n")[-1] if ledger else ""
             counts = re.findall(r"(\w+) (\d+)", total.partition(" after ")[0]), re.findall(r"(\w+) (\d+)", total.partition(" after ")[2])
             wanted = {word: int(count) for word, count in counts[0] if word in BEFORE and word != "open"}
@@ -349,24 +384,75 @@ class CommandLine(Transit):
             self.case(f"the answer beside the ledger {seed}", fault and f"{fault}; the command: {command_of(ran)}")
 
 
+def packet(at, number, late):
+    """A frame of one of two links, each of its own, with its time."""
+    stamp = START + at + late
+    return struct.pack("<IIII", stamp // SECOND, stamp % SECOND, 60, 60) + ENDLESS[number % len(ENDLESS)]
+
+
+# Frames of both links with all sequence numbers. The same one comes again after half a second.
+ENDLESS = [frame(1 + number % 2, 60, number // 2 % 255 + 1) for number in range(510)]
+CHUNK = 5100
+
+
+def packets(count, transit=0):
+    """A recording of a frame each millisecond, by pieces."""
+    yield header()
+    for first in range(0, count, CHUNK):
+        some = range(first, min(first + CHUNK, count))
+        yield b"".join(packet(number * MS, number, transit) for number in some)
+
+
 class Memory(Transit):
     """Memory is flat however long the recordings are, and where one ends long before the other."""
 
-    MOST = 24 << 20
+    MOST, LONG, SHORT = 24 << 20, 10**6, 20_000
 
-    def peak(self, config, before, after):
-        """The most memory of a run in bytes, and its command."""
-        words = [PROGRAM, *self.given(config, before, after, "--ledger", "/dev/null")]
-        # A process counts the memory of the one that starts it, so a small one does.
-        measure = "import resource, subprocess, sys; subprocess.run(sys.argv[1:], stdout=subprocess.DEVNULL, stderr=subprocess.DEVNULL); "
-        measure += "print(resource.getrusage(resource.RUSAGE_CHILDREN).ru_maxrss)"
-        ran = subprocess.run([sys.executable, "-c", measure, *words], stdout=subprocess.PIPE, check=True)
-        return int(ran.stdout) * 1024, " ".join(words)
+    @staticmethod
+    def pour(path, pieces, gate, is_held):
+        """Writes a recording into a pipe. One that is held ends once the memory was looked at."""
+        try:
+            with open(path, "wb") as out:
+                for piece in pieces:
+                    out.write(piece)
+                out.flush()
+                if is_held:
+                    gate.wait(PATIENCE)
+        except (BrokenPipeError, threading.BrokenBarrierError):
+            gate.abort()
+
+    def peak(self, before, after):
+        """The most memory that a run has had in bytes when it has nearly read these many frames from two
+        pipes, its ledger's last line and the command."""
+        ledger = os.path.join(self.folder, "transit.ledger")
+        paths = [os.path.join(self.folder, f"{side}.pipe") for side in ("before", "after")]
+        gate = threading.Barrier(2 + (after == before))
+        config = put(self.folder, "table.toml", table([(1, 2, 0), (2, 2, 0)]))
+        words = ["transit", "--config", config, "--before", paths[0], "--after", paths[1], "--ledger", ledger]
+        for path, count, transit in zip(paths, (before, after), (0, 30 * US)):
+            if not os.path.exists(path):
+                os.mkfifo(path)
+            how = (path, packets(count, transit), gate, count == before)
+            threading.Thread(target=self.pour, args=how, daemon=True).start()
+        child = subprocess.Popen([PROGRAM, *words], stdout=subprocess.DEVNULL, stderr=subprocess.PIPE)
+        most = None
+        try:
+            gate.wait(PATIENCE)
+            most = peak_of(child)
+        except threading.BrokenBarrierError:
+            child.kill()
+        child.communicate(timeout=PATIENCE)
+        with open(ledger, "rb") as text:
+            text.seek(max(os.path.getsize(ledger) - 400, 0))
+            last = text.read().rstrip(b"\n").rpartition(b"\n")[2]
+        return most, last.decode(), " ".join([PROGRAM, *words])
 
     def test_flat(self):
-        before, after = plain_flight(count=200_000)
-        short, _ = self.peak(PLAIN, pcap(before[:20_000]), pcap(after[:20_000]))
-        for name, outs in (("both as long", after), ("the recording after ends early", after[:1000])):
-            used, words = self.peak(PLAIN, pcap(before), pcap(outs))
-            fault = "" if used < min(self.MOST, short + (6 << 20)) else f"{used >> 10} KiB, and {short >> 10} KiB of a tenth of it"
-            self.case(f"memory, {name}", fault and f"{fault}; the command: {words}")
+        short, _, _ = self.peak(self.SHORT, self.SHORT)
+        for name, after in (("both as long", self.LONG), ("the recording after ends early", 1000)):
+            used, last, words = self.peak(self.LONG, after)
+            counts = f"total frames {self.LONG} before {self.LONG} cut 0 passed {after} "
+            fault = "" if last.startswith(counts) else f"the ledger ends {last!r}"
+            if not used or not short or used > min(self.MOST, short + (6 << 20)):
+                fault = f"{(used or 0) >> 10} KiB, and {(short or 0) >> 10} KiB of {self.SHORT} frames"
+            self.case(f"memory of {self.LONG} frames, {name}", fault and f"{fault}; the command: {words}")

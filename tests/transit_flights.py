@@ -10,12 +10,13 @@ from tests.flights import CONSTANT, MS, START, link, recording_of
 from tests.transit_reference import Options
 
 US = 10**3
-BOUND, END = 500 * US, 600 * MS
+BOUND, END, BORDER_END = 500 * US, 600 * MS, 250 * MS
 # Longest transit of a frame that isn't held, in nanoseconds.
 FASTEST, WIRE = 12 * US, 80
 TAP = 60
 ROUTED, UNROUTED, ELSEWHERE, UNLISTED = (1, 2, 3, 4, 5), 6, 7, 50
-Flight = namedtuple("Flight", "config before after options outcomes planted")
+# `links` has the link of each frame that went in.
+Flight = namedtuple("Flight", "config before after options outcomes planted links")
 # A frame at the port in: when, its link, its bytes, and what the switch does with it.
 Sent = namedtuple("Sent", "at link data does")
 # Each fault, and by how much the switch holds the frame.
@@ -128,4 +129,94 @@ def transit_flight(seed, faults=FAULTS):
     before = recording_of((at, one.data) for at, one in zip(ins, sent))
     after = recording_of((at, data) for at, (_, data, _, _) in zip(outs, out))
     planted = [(one.does, number) for number, one in enumerate(sent) if one.does in faults and one.link != UNLISTED]
-    return Flight(table_text(links), before, after, options, words, planted)
+    return Flight(table_text(links), before, after, options, words, planted, [one.link for one in sent])
+
+
+def leaking(flight, leaks):
+    """What has to be said where the port out isn't that of these links: what came out leaked, and what
+    didn't needn't."""
+    words = dict(flight.outcomes)
+    for number, link in enumerate(flight.links):
+        word = words["before", number]
+        if link in leaks and word != "changed":
+            words["before", number] = "leak" if word in ("passed", "slow", "overtaken", "lax") else \
+                "unrouted" if word in ("dropped", "refused") else word
+    return words
+
+
+# ---- a switch at the border of its accounts
+
+class Account:
+    """A switch's account of a link, exact by the switch's own clock: in bytes times BAG in nanoseconds."""
+
+    def __init__(self, one, by_frames):
+        self.smax, self.bag, self.by_frames = one["smax"], one["bag_ms"] * MS, by_frames
+        self.cap = self.smax * (self.bag + one["jitter_us"] * US)
+        self.content, self.at = self.cap, 0
+
+    def price(self, size):
+        return (self.smax if self.by_frames else size) * self.bag
+
+    def holds(self, at):
+        return min(self.cap, self.content + self.smax * (at - self.at))
+
+    def fits_at(self, size):
+        """The first nanosecond at which it holds the price of a frame."""
+        return self.at + max(0, -(-(self.price(size) - self.content) // self.smax))
+
+    def charge(self, at, size):
+        self.content, self.at = self.holds(at) - self.price(size), at
+
+
+def apart_by(chance, fault):
+    """When a frame is sent, from the first nanosecond at which it fits: near it, where a tap sees now this
+    and now that; or beyond doubt, where the switch does wrong."""
+    if fault:
+        return chance.randrange(3000, 9000) * (1 if fault == "dropped" else -1)
+    return chance.choice((0, -1, 1, -TAP, TAP, chance.randint(-900, 900), chance.randint(-40_000, 400_000)))
+
+
+def at_border(chance, one, by_frames, faults):
+    """The frames of a link, each with what the switch does. After the first one comes a pause, in which
+    the account is full again, so that a tap's reader knows it too."""
+    account, sequence, last = Account(one, by_frames), 1, chance.randrange(MS)
+    yield Sent(last, one["id"], data_of(chance, one["id"], sequence, one["smax"] - 4), "passed")
+    account.charge(last, one["smax"])
+    last += 3 * (account.bag + one["jitter_us"] * US)
+    while last < BORDER_END:
+        size = chance.choice((64, 100, 150, 200))
+        fault = chance.choice(faults) if faults and chance.random() < 0.1 else None
+        at = max(account.fits_at(size) + apart_by(chance, fault), last + 40 * US)
+        spare = account.holds(at) - account.price(size)
+        doubt = 3000 * account.smax
+        if fault == "lax" and spare > -doubt or fault == "dropped" and spare < doubt:
+            fault = None
+        does = fault or ("passed" if spare >= 0 else "refused")
+        sequence = sequence % 255 + 1
+        yield Sent(at, one["id"], data_of(chance, one["id"], sequence, size - 4), does)
+        if does == "passed":
+            account.charge(at, size)
+        last = at
+
+
+def border_flight(seed, faults, by_frames):
+    """A flight of senders at the border, whose switch polices to the nanosecond; it passes some that are
+    too many, and drops some that fit, where it has these faults."""
+    chance = random.Random(seed)
+    links = [link(1, 1, 0), link(2, 1, 500), link(3, 2, 3000), link(4, 4, 100)]
+    sent = sorted(one for each in links for one in at_border(chance, each, by_frames, faults))
+    out = []
+    for place, one in enumerate(sent):
+        if one.does in ("passed", "lax"):
+            at = one.at + FASTEST + WIRE * (len(one.data) + 12) + chance.randrange(4 * US)
+            out.append((at, one.data, place, None))
+    out.sort(key=lambda one: one[0])
+    came = {place: number for number, (_, _, place, _) in enumerate(out)}
+    ins = sorted(one.at + chance.choice((-TAP, TAP, chance.randint(-TAP, TAP))) for one in sent)
+    outs = sorted(at + chance.randint(-TAP, TAP) for at, *_ in out)
+    options = Options(frames=by_frames)
+    words = expected(sent, out, ([START + at for at in ins], [START + at for at in outs]), came, options)
+    before = recording_of((at, one.data) for at, one in zip(ins, sent))
+    after = recording_of((at, data) for at, (_, data, _, _) in zip(outs, out))
+    planted = [(one.does, number) for number, one in enumerate(sent) if one.does in faults]
+    return Flight(table_text(links), before, after, options, words, planted, [one.link for one in sent])

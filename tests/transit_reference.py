@@ -9,7 +9,7 @@ import os
 import sys
 from collections import namedtuple
 
-sys.path.insert(0, os.path.dirname(os.path.abspath(__file__)))
+sys.path.insert(0, os.path.dirname(os.path.dirname(os.path.abspath(__file__))))
 sys.dont_write_bytecode = True
 from tests.analyser import ADDRESSED, Frame, class_of, link_id, size_of, table_of  # noqa: E402
 from tests.reference import parse  # noqa: E402
@@ -18,6 +18,7 @@ BEFORE = ("passed", "slow", "overtaken", "changed", "lax", "leak", "dropped", "r
 AFTER = ("twice", "new", "elsewhere", "open")
 DISCARDED = ("runt", "oversize", "foreign", "unconfigured", "toolong")
 ON_A_LINK = ("toolong", "regular")
+LAST = 2**32 * 10**9 - 1
 
 
 class Options:
@@ -50,10 +51,12 @@ def word(value):
     return "-" if value is None else str(value)
 
 
-def read(table, recording, shift=0):
-    """The frames in order, and how the recording ends."""
+def read(table, recording, shift=0, early=0):
+    """The frames in order, and how the recording ends. A shifted time stays within those that a timestamp
+    can have, and so early before the last of them."""
     frames, ending = parse(recording, table.late)
-    seen = [Seen(table, number, stamp + shift, whole, data) for number, (stamp, whole, data) in enumerate(frames)]
+    times = (min(max(stamp + shift, 0), LAST - early) for stamp, _, _ in frames)
+    seen = [Seen(table, number, time, *frame[1:]) for number, (time, frame) in enumerate(zip(times, frames))]
     return sorted(seen, key=lambda one: (one.stamp, one.number)), ending
 
 
@@ -235,7 +238,7 @@ def judge(config, before, after, options):
     word."""
     table = table_of(config)
     befores, before_ends = read(table, before)
-    afters, after_ends = read(table, after, options.shift)
+    afters, after_ends = read(table, after, options.shift, options.early)
     twice, choices = pair(options, befores, afters)
     police(options, table, befores)
     rows = [(p.stamp, 0, p.number, p, of_before(options, p, befores, afters)) for p in befores]

@@ -67,24 +67,12 @@ local function is_before(one, other)
   return one < other
 end
 
--- How many nanoseconds lie between two timestamps that are less than half a second apart.
-local function nanoseconds_between(one, other)
-  local difference = math.abs(tonumber(one:sub(-9)) - tonumber(other:sub(-9)))
-  return math.min(difference, 1e9 - difference)
-end
-
 -- The timestamp of a number of seconds and one of nanoseconds, which may be below 0 or above a second.
 local function timestamp(seconds, nanoseconds)
   seconds, nanoseconds = seconds + math.floor(nanoseconds / 1e9), nanoseconds % 1e9
   if seconds < 0 then return "0" end
   if seconds == 0 then return string.format("%d", nanoseconds) end
   return string.format("%d%09d", seconds, nanoseconds)
-end
-
--- The timestamp of a time in seconds.
-local function timestamp_of(time)
-  local seconds = math.floor(time)
-  return timestamp(seconds, math.floor((time - seconds) * 1e9 + 0.5))
 end
 
 -- The seconds and the nanoseconds of a decimal text of nanoseconds.
@@ -359,24 +347,31 @@ end
 -- How well a line of about the same timestamp fits a frame. A link counts most, then the network, then the index, which
 -- tells in a whole recording which of two equal frames this is; then how close the timestamps are.
 local function fitness(line, frame)
-  local close = 1 - nanoseconds_between(line.stamp, frame.stamp) / 1e4
+  local apart = math.abs(tonumber(line.stamp:sub(-9)) - frame.nanoseconds)
+  local close = 1 - math.min(apart, 1e9 - apart) / 1e4
   return ((line.vl ~= "-") == frame.is_afdx and 8 or 0) + (line.tap == frame.network and 4 or 0)
     + (tonumber(line.number) == frame.number and 2 or 0) + close
 end
 
+-- The lines from a time before a frame to one after it, which are given in nanoseconds.
+local function lines_about(source, frame, before, after)
+  local low = timestamp(frame.seconds, frame.nanoseconds - before)
+  return source:between(low, timestamp(frame.seconds, frame.nanoseconds + after))
+end
+
 -- The line of a frame in a recording of one network, or of one side, by its index there.
 local function line_by_number(source, frame, where)
-  for line in source:between(later(frame.stamp, -INEXACT), later(frame.stamp, INEXACT)) do
+  for line in lines_about(source, frame, INEXACT, INEXACT) do
     if (line.tap or line.side) == where and tonumber(line.number) == frame.number then return line end
   end
 end
 
 -- The line that fits a frame of any recording best, by its timestamp: of all, or of one side.
 local function line_by_timestamp(source, frame, side)
-  local best, fits
-  for line in source:between(later(frame.stamp, -INEXACT), later(frame.stamp, INEXACT + LOST)) do
-    local how_well = line.side == side and agrees(line, frame) and fitness(line, frame)
-    if how_well and (not best or how_well > fits) then best, fits = line, how_well end
+  local best
+  for line in lines_about(source, frame, INEXACT, INEXACT + LOST) do
+    local may_be = line.side == side and agrees(line, frame)
+    if may_be and (not best or fitness(line, frame) > fitness(best, frame)) then best = line end
   end
   return best
 end
@@ -414,8 +409,9 @@ end
 -- bits of the source address's last byte name the network.
 local function look_at(buffer, packet)
   local held = buffer:len()
-  local frame = { held = held, length = packet.len, number = packet.number - 1 }
-  frame.stamp = timestamp_of(packet.abs_ts)
+  local time = packet.abs_ts
+  local frame = { held = held, length = packet.len, number = packet.number - 1, seconds = math.floor(time) }
+  frame.nanoseconds = math.floor((time - frame.seconds) * 1e9 + 0.5)
   local head = buffer:raw(0, math.min(held, 12))
   frame.is_afdx = #head >= 6 and head:sub(1, 4) == state.constant
   if #head >= 6 then frame.vl = head:byte(5) * 256 + head:byte(6) end

@@ -1,6 +1,6 @@
--- Frames of a path that no switch lost, by link and the port whose recorder missed them first, or whose switch
--- took longer than its window. They have no partner at that hop, and one from end to end that no other frame of
--- port 0 came to. The hops hop1, hop2 .. and `path` were loaded with --frames.
+-- Frames of a path that no switch lost, by link and the port whose recorder missed them first, or whose
+-- switch took longer than its window. They have no partner at that hop, and one from end to end that no other
+-- frame of port 0 came to. The hops hop1, hop2 .. and `path` were loaded with --frames.
 WITH RECURSIVE steps AS (
     SELECT flight, link, number AS start, 1 AS port, other FROM transits
     WHERE hop = 'hop1' AND side = 'before'

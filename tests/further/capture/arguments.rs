@@ -39,6 +39,8 @@ static COMMANDS: [(&[&str], Invocation<'static>); 3] = [
             digest: false,
             workers: 8,
             quiet: false,
+            strict: false,
+            resumes: false,
             pcapng: false,
             late: None,
         }),
