@@ -1,5 +1,6 @@
 //! All that is kept of a link's frames on one network.
 
+use crate::brief::Brief;
 use crate::gaps::Gaps;
 use crate::needs::Needs;
 use crate::numbering::Numbering;
@@ -34,13 +35,13 @@ impl Arrivals {
         }
     }
 
-    /// Counts a frame: when it came, its length on the wire in bytes without the frame check sequence, and
-    /// its sequence number. Before a timestamp below that of the frame before the gap counts as 0.
+    /// Counts a frame. Before a timestamp below that of the frame before the gap counts as 0.
     #[inline(always)]
-    pub(crate) fn see(&mut self, stamp: Stamp, len: u32, number: u8) {
+    pub(crate) fn see(&mut self, brief: &Brief) {
+        let stamp = brief.stamp;
         self.frames = self.frames.saturating_add(1);
-        self.greatest_len = self.greatest_len.max(len);
-        self.numbering.see(number);
+        self.greatest_len = self.greatest_len.max(brief.whole);
+        self.numbering.see(brief.number);
         if let Some(last) = self.last.replace(stamp) {
             let gap = stamp.0.saturating_sub(last.0);
             self.gaps.step(gap);

@@ -40,7 +40,7 @@ pub struct Inputs<'a> {
 }
 
 /// The place of each identifier's link.
-fn places_of(alloc: Global, links: &[Link]) -> Result<Vec<u16>, AllocError> {
+pub(crate) fn places_of(alloc: Global, links: &[Link]) -> Result<Vec<u16>, AllocError> {
     let none = links.len().min(usize::from(u16::MAX)) as u16;
     let mut places = vec![in alloc; none; VL_ID_COUNT]?;
     for (link, number) in links.iter().zip(0..none) {

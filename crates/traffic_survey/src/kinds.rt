@@ -15,6 +15,22 @@ pub struct Kind {
     pub frames: u64,
 }
 
+impl Kind {
+    /// The protocol of the EtherType. None: it is told as a number.
+    pub fn name(&self) -> Option<&'static str> {
+        match self.ethertype {
+            0 => Some("without an EtherType"),
+            0x0800 => Some("IPv4"),
+            0x0806 => Some("ARP"),
+            0x8100 => Some("802.1Q"),
+            0x86dd => Some("IPv6"),
+            0x88cc => Some("LLDP"),
+            0x88f7 => Some("PTP"),
+            _ => None,
+        }
+    }
+}
+
 /// Frames by EtherType.
 #[derive(Drop)]
 pub struct Kinds {

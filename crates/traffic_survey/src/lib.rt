@@ -2,8 +2,7 @@
 //!
 //! Frames of both recordings come in the order of timestamp, network and number. Memory is bounded by links
 //! and by the frames of a second, since a timestamp may lie so far below one before it: a link costs some
-//! 14 KB from its first frame on. Of the frames that wait for a survey their blocks don't: it counts by seven
-//! bytes of a frame, which frames of one link and number share.
+//! 14 KB from its first frame on, and a frame that waits for a survey 24 bytes.
 //!
 //! [`Survey`] says what the frames say of each link's parameters. [`Inputs`] looks at the first frames
 //! beside a table of links, and counts: memory is bounded by the links of the table, some 10 KB each.
@@ -12,6 +11,8 @@
 #![tactic(auto)]
 
 mod arrivals;
+mod backlog;
+mod brief;
 mod checksum;
 mod clocks;
 mod copies;
@@ -26,6 +27,8 @@ mod gaps;
 mod inputs;
 mod kinds;
 mod last;
+mod lent_pair;
+mod lent_tap;
 mod link;
 mod links;
 mod need;
@@ -34,15 +37,17 @@ mod numbering;
 mod observer;
 mod pair;
 mod per_network;
+mod progress;
 mod questions;
 mod recorded;
 mod run;
-mod short;
 mod silences;
 mod steps;
 mod survey;
+mod surveying;
 mod tap;
 mod tap_tally;
+mod traffic;
 mod twice;
 mod unlike;
 
@@ -69,3 +74,4 @@ pub use run::{Pass, SurveyRun, show_both, show_recordings, survey_recordings};
 pub use steps::Step;
 pub use survey::{Field, GROUP_BITS, Survey};
 pub use tap_tally::TapTally;
+pub use traffic::{CrossedFrames, Traffic};

@@ -1,8 +1,9 @@
 //! The links of one constant field.
 
 use crate::arrivals::Arrivals;
+use crate::brief::Brief;
 use crate::copies::{Copies, MAX_SKEW};
-use afdx_frame::{LentFrame, Network, VL_ID_COUNT, VlId};
+use afdx_frame::{Network, VL_ID_COUNT, VlId};
 use std::alloc::{AllocError, Global};
 
 /// The most links of a table.
@@ -45,13 +46,12 @@ impl LinkSurvey {
     }
 
     #[inline(always)]
-    fn see(&mut self, frame: &LentFrame<'_>, number: u8) {
-        let (network, stamp) = (frame.network(), frame.stamp());
+    fn see(&mut self, network: Network, brief: &Brief) {
         match network {
-            Network::A => self.a.see(stamp, frame.whole(), number),
-            Network::B => self.b.see(stamp, frame.whole(), number),
+            Network::A => self.a.see(brief),
+            Network::B => self.b.see(brief),
         }
-        let _skew = self.copies.see(network, number, stamp);
+        let _skew = self.copies.see(network, brief.number, brief.stamp);
     }
 }
 
@@ -78,19 +78,14 @@ impl Links {
     ///
     /// `AllocError` if there is no memory for a new link.
     #[inline]
-    pub(crate) fn see(
-        &mut self,
-        id: VlId,
-        frame: &LentFrame<'_>,
-        number: u8,
-    ) -> Result<(), AllocError> {
-        let place = self.place(id);
+    pub(crate) fn see(&mut self, network: Network, brief: &Brief) -> Result<(), AllocError> {
+        let place = self.place(brief.link);
         match self.links.get_mut(place) {
             Some(link) => {
-                link.see(frame, number);
+                link.see(network, brief);
                 Ok(())
             }
-            None => self.see_first(id, frame, number),
+            None => self.see_first(network, brief),
         }
     }
 
@@ -98,15 +93,15 @@ impl Links {
     /// much of the stack, which is cleared at each call.
     #[cold]
     #[inline(never)]
-    fn see_first(&mut self, id: VlId, frame: &LentFrame<'_>, number: u8) -> Result<(), AllocError> {
+    fn see_first(&mut self, network: Network, brief: &Brief) -> Result<(), AllocError> {
         if self.links.len() >= MAX_LINKS {
             self.refused = self.refused.saturating_add(1);
             return Ok(());
         }
-        let mut link = LinkSurvey::new(id);
-        link.see(frame, number);
+        let mut link = LinkSurvey::new(brief.link);
+        link.see(network, brief);
         let next = self.links.len() as u16;
-        if let Some(place) = self.places.get_mut(usize::from(id.0)) {
+        if let Some(place) = self.places.get_mut(usize::from(brief.link.0)) {
             *place = next;
         }
         self.links.push(link)?;

@@ -8,6 +8,12 @@ use afdx_frame::Stamp;
 /// the greatest jitter of a table.
 const CLASSES: usize = 19;
 
+/// A microsecond, in nanoseconds.
+const MICRO: u64 = 1_000;
+
+/// The least need of the last class.
+const LAST_CLASS: u64 = MICRO << (CLASSES - 2);
+
 /// The least jitter with which policing lets all frames of a link through, whatever their sizes up to
 /// Smax, for one BAG. Times are in nanoseconds.
 ///
@@ -15,6 +21,8 @@ const CLASSES: usize = 19;
 /// take n BAGs less the jitter.
 #[derive(Drop)]
 pub struct Need {
+    /// How many needs there are of each class but the first, that of less than a microsecond.
+    classes: [u32; 19],
     /// The BAG.
     pub bag: u64,
     newest: u64,
@@ -22,18 +30,17 @@ pub struct Need {
     pub greatest: u64,
     /// When the first frame came that needs so much; 0 where none needs any.
     pub at: Stamp,
-    classes: [u32; 19],
 }
 
 impl Need {
     /// The needs of a link's frames that has sent one frame at most, at a BAG of so many nanoseconds.
     pub(crate) fn new(bag: u64) -> Need {
         Need {
+            classes: [0; CLASSES],
             bag,
             newest: 0,
             greatest: 0,
             at: Stamp(0),
-            classes: [0; CLASSES],
         }
     }
 
@@ -45,8 +52,10 @@ impl Need {
             self.greatest = self.newest;
             self.at = stamp;
         }
-        let class = class_of(self.newest);
-        self.classes[class] = self.classes[class].saturating_add(1);
+        if self.newest >= MICRO {
+            let class = class_of(self.newest);
+            self.classes[class] = self.classes[class].saturating_add(1);
+        }
     }
 
     /// The least power of 2 in microseconds, below which the needs of all frames but so many lie.
@@ -72,7 +81,10 @@ impl Need {
 fn class_of(need: u64) -> usize
     ensures { result < 19 }
 {
-    match (need / 1000).checked_ilog2() {
+    if need >= LAST_CLASS {
+        return CLASSES - 1;
+    }
+    match (need / MICRO).checked_ilog2() {
         Some(power) => (power as usize).saturating_add(1).min(CLASSES - 1),
         None => 0,
     }

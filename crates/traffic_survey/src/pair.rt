@@ -21,6 +21,33 @@ pub(crate) struct Unopened<S> {
     pub(crate) b: S,
 }
 
+/// Opens the recordings of networks A and B, in this order. A refusal gives both back.
+pub(crate) fn open_readers<S: TapSource>(
+    late: u64,
+    a: S,
+    b: S,
+) -> Result<(TapReader<S>, TapReader<S>), Unopened<S>> {
+    let a = match TapReader::open(a, Network::A, MAX_FRAMES, late) {
+        Ok(reader) => reader,
+        Err(OpenRefused { source, fault }) => {
+            let fault = fault_of_open(Network::A, fault);
+            return Err(Unopened {
+                fault,
+                a: source,
+                b,
+            });
+        }
+    };
+    match TapReader::open(b, Network::B, MAX_FRAMES, late) {
+        Ok(b) => Ok((a, b)),
+        Err(OpenRefused { source, fault }) => Err(Unopened {
+            fault: fault_of_open(Network::B, fault),
+            a: a.into_source(),
+            b: source,
+        }),
+    }
+}
+
 /// Both recordings, and the merger of their frames.
 #[derive(Drop)]
 pub(crate) struct Pair<S> {
@@ -32,28 +59,7 @@ pub(crate) struct Pair<S> {
 impl<S: TapSource> Pair<S> {
     /// Opens the recordings of networks A and B, in this order. A refusal gives both back.
     pub(crate) fn open(alloc: Global, extent: Extent, a: S, b: S) -> Result<Pair<S>, Unopened<S>> {
-        let a = match TapReader::open(a, Network::A, MAX_FRAMES, extent.late) {
-            Ok(reader) => reader,
-            Err(OpenRefused { source, fault }) => {
-                let fault = fault_of_open(Network::A, fault);
-                return Err(Unopened {
-                    fault,
-                    a: source,
-                    b,
-                });
-            }
-        };
-        let b = match TapReader::open(b, Network::B, MAX_FRAMES, extent.late) {
-            Ok(reader) => reader,
-            Err(OpenRefused { source, fault }) => {
-                let (fault, a) = (fault_of_open(Network::B, fault), a.into_source());
-                return Err(Unopened {
-                    fault,
-                    a,
-                    b: source,
-                });
-            }
-        };
+        let (a, b) = open_readers(extent.late, a, b)?;
         Ok(Pair {
             a: Tap::new(a, extent.frames),
             b: Tap::new(b, extent.frames),

@@ -2,11 +2,12 @@
 
 use crate::cut_links::CutLinks;
 use crate::inputs::Inputs;
+use crate::lent_pair::LentPair;
 use crate::observer::Observer;
 use crate::pair::{Pair, Unopened};
 use crate::recorded::{Extent, Recorded};
-use crate::short::ShortSurvey;
 use crate::survey::Survey;
+use crate::surveying::Surveying;
 use frame_batch::Round;
 use pcap_io::TapSource;
 use run_fault::{MAX_FRAMES, WatchFault};
@@ -102,6 +103,26 @@ pub fn show_both<S: TapSource, O: Observer>(
     }
 }
 
+/// Shows the inputs the frames of both recordings, in which no timestamp lies below one before it.
+fn show_lent<S: TapSource>(
+    alloc: Global,
+    pair: &mut LentPair<S>,
+    inputs: &mut Inputs<'_>,
+) -> Result<(), WatchFault> {
+    pair.a.advance(alloc)?;
+    pair.b.advance(alloc)?;
+    for _frame in 0..MAX_ROUNDS {
+        let Some(tap) = pair.earlier() else {
+            break;
+        };
+        if let Some(frame) = tap.frame() {
+            inputs.see(alloc, &frame)?;
+        }
+        tap.advance(alloc)?;
+    }
+    Ok(())
+}
+
 /// Reads both recordings once, as far as it is told, and counts their frames. Both sources come back.
 ///
 /// Where timestamps may lie below the greatest one before them, the frames of so much time wait in memory.
@@ -116,7 +137,20 @@ pub fn show_recordings<S: TapSource>(
     b: S,
     inputs: &mut Inputs<'_>,
 ) -> Pass<S> {
-    show_both(alloc, extent, a, b, inputs)
+    if extent.late > 0 {
+        return show_both(alloc, extent, a, b, inputs);
+    }
+    match LentPair::open(extent, a, b) {
+        Ok(mut pair) => {
+            let shown = show_lent(alloc, &mut pair, inputs);
+            pair.finish(extent, shown)
+        }
+        Err(Unopened { fault, a, b }) => Pass {
+            outcome: Err(fault),
+            a,
+            b,
+        },
+    }
 }
 
 /// Reads both recordings to their endings, once, and says what was seen. Both sources come back.
@@ -133,9 +167,20 @@ pub fn survey_recordings<S: TapSource>(
     a: S,
     b: S,
 ) -> SurveyRun<S> {
-    let mut short = ShortSurvey::new(alloc, wanted);
-    let Pass { outcome, a, b } = show_both(alloc, Extent::whole(), a, b, &mut short);
-    let ShortSurvey { survey, cut, .. } = short;
+    let extent = Extent::whole();
+    let mut surveying = Surveying::new(alloc, wanted, extent.late);
+    let Pass { outcome, a, b } = match LentPair::open(extent, a, b) {
+        Ok(mut pair) => {
+            let seen = surveying.see_both(alloc, &mut pair);
+            pair.finish(extent, seen)
+        }
+        Err(Unopened { fault, a, b }) => Pass {
+            outcome: Err(fault),
+            a,
+            b,
+        },
+    };
+    let Surveying { survey, cut, .. } = surveying;
     SurveyRun {
         outcome: outcome.map(|(of_a, of_b)| (survey, of_a, of_b)),
         cut,

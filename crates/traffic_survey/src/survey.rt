@@ -1,7 +1,8 @@
 //! The survey of a network by its recordings: its constant field and its links.
 
+use crate::brief::Brief;
 use crate::links::Links;
-use afdx_frame::LentFrame;
+use afdx_frame::{LentFrame, Network};
 use std::alloc::{AllocError, Global};
 
 /// How many constant fields are kept.
@@ -54,25 +55,28 @@ impl Survey {
         }
     }
 
-    /// Counts a frame by its first six bytes and its last, whatever its length. One without these bytes
-    /// can't be counted.
+    /// Counts a frame that can't be counted by its link.
+    pub(crate) fn skip(&mut self) {
+        self.unusable = self.unusable.saturating_add(1);
+    }
+
+    /// Counts the next frame of a network.
     ///
     /// # Errors
     ///
     /// `AllocError` if there is no memory for a new constant field or a new link.
     #[inline]
-    pub(crate) fn see(&mut self, alloc: Global, frame: &LentFrame<'_>) -> Result<(), AllocError> {
-        let view = frame.view();
-        let (Some(constant), Some(id), Some(number)) = (view.constant(), view.vl(), view.sequence())
-        else {
-            self.unusable = self.unusable.saturating_add(1);
-            return Ok(());
-        };
-        let place = self.place_of(alloc, constant)?;
+    pub(crate) fn see(
+        &mut self,
+        alloc: Global,
+        network: Network,
+        brief: &Brief,
+    ) -> Result<(), AllocError> {
+        let place = self.place_of(alloc, brief.constant)?;
         match self.fields.get_mut(place) {
             Some(field) => {
                 field.frames = field.frames.saturating_add(1);
-                field.links.see(id, frame, number)
+                field.links.see(network, brief)
             }
             None => {
                 self.others = self.others.saturating_add(1);

@@ -1,22 +1,19 @@
 //! One recording as it is read.
 
 use crate::observer::Observer;
-use crate::recorded::{Recorded, Times};
+use crate::progress::Progress;
+use crate::recorded::Recorded;
 use afdx_frame::{Network, TapFrame};
 use ordered_merge::Merger;
-use pcap_io::{Ending, Item, ReadFault, TapReader, TapSource};
+use pcap_io::{Item, ReadFault, TapReader, TapSource};
 use run_fault::WatchFault;
 use std::alloc::Global;
 
 /// A recording, and what was read of it so far.
 #[derive(Drop)]
 pub(crate) struct Tap<S> {
-    pub(crate) reader: TapReader<S>,
-    /// How many more frames are wanted.
-    pub(crate) room: u64,
-    pub(crate) times: Times,
-    /// The ending, once the recording was read to it.
-    pub(crate) ending: Option<Ending>,
+    reader: TapReader<S>,
+    progress: Progress,
 }
 
 /// Merges what waits of a frame. A reader's frames come in its order, so that each may come next.
@@ -40,9 +37,7 @@ impl<S: TapSource> Tap<S> {
     pub(crate) fn new(reader: TapReader<S>, room: u64) -> Tap<S> {
         Tap {
             reader,
-            room,
-            times: Times::new(),
-            ending: None,
+            progress: Progress::new(room),
         }
     }
 
@@ -58,32 +53,23 @@ impl<S: TapSource> Tap<S> {
         let frame = match self.reader.next(alloc) {
             Ok(Item::Frame(frame)) => frame,
             Ok(Item::End(ending)) => {
-                self.ending = Some(ending);
+                self.progress.end(ending);
                 merger.end(network);
                 return Ok(());
             }
             Err(ReadFault::Memory) => return Err(WatchFault::Memory),
             Err(ReadFault::Device | ReadFault::Failed) => return Err(WatchFault::Read { network }),
         };
-        if self.room == 0 {
+        if !self.progress.takes(frame.stamp()) {
             merger.end(network);
             return Ok(());
         }
-        self.room -= 1;
-        self.times.note(frame.stamp().0);
         merge(alloc, frame, merger, observer)
     }
 
     /// The source, and what is told of the recording, of which so many frames were wanted. What was read
     /// ahead of the source is lost.
     pub(crate) fn finish(self, most: u64) -> (S, Recorded) {
-        let Times { span, late } = self.times;
-        let recorded = Recorded {
-            ending: self.ending.unwrap_or(Ending::Clean(most)),
-            whole: self.ending.is_some(),
-            span,
-            late,
-        };
-        (self.reader.into_source(), recorded)
+        (self.reader.into_source(), self.progress.recorded(most))
     }
 }

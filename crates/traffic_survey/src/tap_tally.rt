@@ -13,7 +13,7 @@ use vl_config::Class;
 const CHECKED: u64 = 64;
 
 /// The EtherType of an 802.1Q tag.
-const TAG: u16 = 0x8100;
+pub(crate) const TAG: u16 = 0x8100;
 
 /// The place of the last byte of a frame's source address.
 const INTERFACE: usize = 11;
