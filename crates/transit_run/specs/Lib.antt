@@ -1,1 +1,5 @@
+pub mod Counts
+pub mod Held
+pub mod Ledger
+pub mod Line
 pub mod Outcome

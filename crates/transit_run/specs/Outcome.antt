@@ -30,11 +30,11 @@ fate_by_pair pair.Alike passage = fate_of_pair passage
 fate_by_pair pair.Changed passage = fate.Changed
 fate_by_pair pair.Without passage = fate_of_missing passage
 
--- what became of a frame that went in
+-- the fate of a frame that went in
 abbrev pub fate_of : Passage → Fate
 fate_of passage = if passage.is_cut then fate.Cut else fate_by_pair passage.pair passage
 
--- what a frame without a partner is that came out
+-- the origin of a frame that came out without a partner
 abbrev pub origin_of : Bool → Bool → Bool → Bool → Origin
 origin_of is_cut is_twice is_covered is_elsewhere =
     if is_cut then origin.Cut
@@ -62,3 +62,25 @@ origin_word origin.Twice = codes "twice"
 origin_word origin.Open = codes "open"
 origin_word origin.Elsewhere = codes "elsewhere"
 origin_word origin.New = codes "new"
+
+-- the place of a fate's count
+abbrev pub fate_place : Fate → ℕ
+fate_place fate.Cut = 0
+fate_place fate.Leak = 1
+fate_place fate.Lax = 2
+fate_place fate.Overtaken = 3
+fate_place fate.Slow = 4
+fate_place fate.Passed = 5
+fate_place fate.Changed = 6
+fate_place fate.Open = 7
+fate_place fate.Unrouted = 8
+fate_place fate.Refused = 9
+fate_place fate.Dropped = 10
+
+-- the place of an origin's count
+abbrev pub origin_place : Origin → ℕ
+origin_place origin.Cut = 0
+origin_place origin.Twice = 1
+origin_place origin.Open = 2
+origin_place origin.Elsewhere = 3
+origin_place origin.New = 4

@@ -26,8 +26,6 @@ pub struct LinkTransits<'a> {
 /// Frames of one lane can be each other; no frame of another lane can.
 #[derive(Drop)]
 pub(crate) struct Lane {
-    /// None: it is that of all frames whose bytes hold no link.
-    pub(crate) link: Option<VlId>,
     /// By their bytes.
     pub(crate) alike: Waiting<Vec<u8>>,
     /// By their links and sequence numbers, those that have no partner with their bytes.
@@ -35,7 +33,6 @@ pub(crate) struct Lane {
     pub(crate) policer: Option<Policer>,
     pub(crate) facts: LinkFacts,
     pub(crate) latency: Latency,
-    pub(crate) tally: Tally,
     /// How many frames in a row were dropped last, and the most.
     row: u64,
     pub(crate) most_in_a_row: u64,
@@ -44,21 +41,14 @@ pub(crate) struct Lane {
 }
 
 impl Lane {
-    /// Of no frame of a link of the table, of another one, or of none.
-    pub(crate) fn new(
-        alloc: Global,
-        id: Option<VlId>,
-        link: Option<&Link>,
-        options: &Options,
-    ) -> Lane {
+    /// Of no frame of a link of the table, or of others.
+    pub(crate) fn new(alloc: Global, link: Option<&Link>, options: &Options) -> Lane {
         Lane {
-            link: id,
             alike: Waiting::new(alloc, options.window()),
             placed: Waiting::new(alloc, options.window()),
             policer: link.map(Policer::new),
             facts: LinkFacts::new(),
             latency: Latency::new(alloc),
-            tally: Tally::new(),
             row: 0,
             most_in_a_row: 0,
             first_fault: None,
@@ -67,7 +57,6 @@ impl Lane {
 
     /// A frame that went in has this fate, and came out or didn't.
     pub(crate) fn note_fate(&mut self, fate: Fate, came_out: bool) {
-        self.tally.count_fate(fate);
         if fate == Fate::Dropped {
             self.row = self.row.saturating_add(1);
             self.most_in_a_row = self.most_in_a_row.max(self.row);
@@ -79,16 +68,5 @@ impl Lane {
     /// A frame has a fault at this moment.
     pub(crate) fn note_fault(&mut self, moment: u64) {
         self.first_fault = Some(self.first_fault.unwrap_or(moment));
-    }
-
-    /// The frames of the lane.
-    pub(crate) fn transits(&self) -> LinkTransits<'_> {
-        LinkTransits {
-            id: self.link,
-            tally: &self.tally,
-            latency: &self.latency,
-            row: self.most_in_a_row,
-            first_fault: self.first_fault,
-        }
     }
 }

@@ -6,17 +6,22 @@
 //! certain. Then it has the counts. It holds the frames of twice the window, and no more.
 #![tactic(auto)]
 
+mod counts;
 mod facts;
 mod floor;
 mod kind;
 mod lane;
 mod latency;
+mod ledger;
 mod line;
+mod notes;
 mod options;
 mod order;
 mod outcome;
+mod pairing;
 mod pass;
 mod policer;
+mod reach;
 mod rows;
 mod silence;
 mod summary;

@@ -1,8 +1,7 @@
 //! The outcome of a frame, as a ledger of transits says it.
 
-ghost use Rattle.std.specs.Prelude.{◌≡◌, ◌<◌};
-ghost use Rattle.transit_run.specs.declared.outcome.TheConstants.{FATES, ORIGINS};
-ghost use Rattle.transit_run.specs.Outcome.{fate_of, fate_of_missing, fate_of_pair, fate_word, origin_of, origin_word};
+ghost use Rattle.std.specs.Prelude.{◌≡◌};
+ghost use Rattle.transit_run.specs.Outcome.{fate_of, fate_of_missing, fate_of_pair, fate_place, fate_word, origin_of, origin_place, origin_word};
 
 /// How many outcomes there are of frames that went in.
 pub(crate) const FATES: usize = 11;
@@ -149,7 +148,7 @@ pub fn origin_of(is_cut: bool, is_twice: bool, is_covered: bool, is_elsewhere: b
 impl Fate {
     /// The place of its count.
     pub(crate) fn place(self) -> usize
-        ensures { result < FATES }
+        ensures { result ≡ fate_place self }
     {
         match self {
             Fate::Cut => 0,
@@ -189,7 +188,7 @@ impl Fate {
 impl Origin {
     /// The place of its count.
     pub(crate) fn place(self) -> usize
-        ensures { result < ORIGINS }
+        ensures { result ≡ origin_place self }
     {
         match self {
             Origin::Cut => 0,

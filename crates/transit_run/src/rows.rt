@@ -1,5 +1,9 @@
 //! Frames whose lines aren't written yet.
 
+ghost use Rattle.std.specs.Prelude.{◌≡◌};
+ghost use Rattle.transit_run.specs.Line.{link_number, link_of, sequence_of};
+
+use crate::line::NumberOrDash;
 use crate::outcome::Pair;
 use afdx_frame::VlId;
 use vl_config::Class;
@@ -15,6 +19,40 @@ pub(crate) struct Head {
     pub(crate) address: Option<(VlId, u8)>,
     /// The length on the wire, in bytes.
     pub(crate) whole: u32,
+    /// The place of its lane.
+    pub(crate) place: usize,
+}
+
+impl Head {
+    /// The link that the frame names.
+    pub(crate) fn link(&self) -> Option<VlId>
+        ensures { result ≡ link_of self.now }
+    {
+        match self.address {
+            Some((link, _)) => Some(link),
+            None => None,
+        }
+    }
+
+    /// That link's number.
+    pub(crate) fn link_number(&self) -> NumberOrDash
+        ensures { result.0 ≡ link_number self.now }
+    {
+        match self.address {
+            Some((VlId(link), _)) => NumberOrDash(Some(u64::from(link))),
+            None => NumberOrDash(None),
+        }
+    }
+
+    /// The frame's sequence number.
+    pub(crate) fn sequence(&self) -> NumberOrDash
+        ensures { result.0 ≡ sequence_of self.now }
+    {
+        match self.address {
+            Some((_, sequence)) => NumberOrDash(Some(u64::from(sequence))),
+            None => NumberOrDash(None),
+        }
+    }
 }
 
 /// The frame of a pair that came out.

@@ -1,8 +1,9 @@
 //! The counts at the end of a ledger of transits.
 
+use crate::counts::LinkCounts;
 use crate::lane::Lane;
 use crate::latency::Latency;
-use crate::line::OrDash;
+use crate::line::TransitOrDash;
 use crate::outcome::{Fate, Origin};
 use crate::tally::Tally;
 use std::alloc::AllocError;
@@ -57,10 +58,13 @@ fn write_link(text: &mut String, link: &Link, tally: &Tally) -> Result<(), Alloc
 /// Writes the transits of some frames, after what the line says of which.
 fn write_latency(text: &mut String, latency: &Latency) -> Result<(), AllocError> {
     let (count, sum) = (latency.count, latency.sum);
-    let least = OrDash(latency.range.map(|range| range.0));
-    let greatest = OrDash(latency.range.map(|range| range.1));
-    let (p50, p99) = (OrDash(latency.rank(500)), OrDash(latency.rank(990)));
-    let p999 = OrDash(latency.rank(999));
+    let least = TransitOrDash(latency.range.map(|range| range.0));
+    let greatest = TransitOrDash(latency.range.map(|range| range.1));
+    let (p50, p99) = (
+        TransitOrDash(latency.rank(500)),
+        TransitOrDash(latency.rank(990)),
+    );
+    let p999 = TransitOrDash(latency.rank(999));
     write!(text, " count {count} sum {sum} least {least}")?;
     writeln!(text, " p50 {p50} p99 {p99} p999 {p999} greatest {greatest}")
 }
@@ -69,11 +73,12 @@ fn write_latency(text: &mut String, latency: &Latency) -> Result<(), AllocError>
 pub(crate) fn write_links(
     text: &mut String,
     links: &[Link],
+    counts: &[LinkCounts],
     lanes: &[Lane],
     all: &Latency,
 ) -> Result<(), AllocError> {
-    for (link, lane) in links.iter().zip(lanes) {
-        write_link(text, link, &lane.tally)?;
+    for ((link, counts), lane) in links.iter().zip(counts).zip(lanes) {
+        write_link(text, link, &counts.tally)?;
         let id = link.id.0;
         write!(text, "latency {id}")?;
         write_latency(text, &lane.latency)?;

@@ -1,0 +1,5 @@
+pub mod Growing
+pub mod Passing
+pub mod Placed
+pub mod Tallies
+pub mod Written
