@@ -44,11 +44,11 @@ _afdxmon() {
         asm:-*) _afdxmon_words '-v --verbose -h --help' "$current" ;;
         watch:-*) _afdxmon_words '--config --filter --a --b --capture --ledger --manifest --digest --workers --late-us --quiet --strict --resume-after-cut --pcapng -v --verbose -h --help' "$current" ;;
         debug:-*) _afdxmon_words '--filter --source --tap --late-us -v --verbose -h --help' "$current" ;;
-        cut:-*) _afdxmon_words '--ledger --a --b --before --after --config --link --network --verdict --from --to --span --filters --around --ledger-only --pcapng -o --output -v --verbose -h --help' "$current" ;;
-        links:-*) _afdxmon_words '--a --b --constant --icd --column -v --verbose -h --help' "$current" ;;
-        report:-*) _afdxmon_words '--config --ledger --manifest --baseline --baseline-config --transit --from --to --link --network --json --csv --title --fail-on -o --output -v --verbose -h --help' "$current" ;;
-        check:-*) _afdxmon_words '--config --filter --a --b --expected --whole --json -v --verbose -h --help' "$current" ;;
-        transit:-*) _afdxmon_words '--config --before --after --network --within-us --early-us --bound-us --routed --shift-ns --police --grace-us --late-us --ledger --json -v --verbose -h --help' "$current" ;;
+        cut:-*) _afdxmon_words '--ledger --a --b --before --after --config --link --network --verdict --from --to --span --filters --around --ledger-only --resume-after-cut --pcapng -o --output -v --verbose -h --help' "$current" ;;
+        links:-*) _afdxmon_words '--a --b --constant --icd --column --resume-after-cut -v --verbose -h --help' "$current" ;;
+        report:-*) _afdxmon_words '--config --ledger --manifest --expected --baseline --baseline-config --transit --from --to --link --network --json --csv --title --fail-on -o --output -v --verbose -h --help' "$current" ;;
+        check:-*) _afdxmon_words '--config --filter --a --b --expected --whole --resume-after-cut --json -v --verbose -h --help' "$current" ;;
+        transit:-*) _afdxmon_words '--config --before --after --network --within-us --early-us --bound-us --routed --shift-ns --police --grace-us --late-us --resume-after-cut --ledger --json -v --verbose -h --help' "$current" ;;
         help:*) _afdxmon_words 'capture asm watch debug cut links report check transit help' "$current" ;;
         capture:*) _afdxmon_files "$current" ;;
     esac

@@ -806,15 +806,17 @@ def statistics(interface, options, order="<"):
 
 
 def pcapng(interfaces, frames, order="<"):
-    """A pcapng file of Ethernet interfaces with these names, and of frames (interface, stamp, bytes)."""
+    """A pcapng file of Ethernet interfaces with these names, and of frames (interface, stamp, bytes, and options that their packets have)."""
     block = lambda kind, body: struct.pack(order + "II", kind, len(body) + 12) + body + struct.pack(order + "I", len(body) + 12)
     out = block(0x0A0D0D0A, struct.pack(order + "IHHq", 0x1A2B3C4D, 1, 0, -1))
     for name in interfaces:
         text = name.encode()
         options = struct.pack(order + "HH", 2, len(text)) + text + bytes(-len(text) % 4) + struct.pack(order + "HH", 9, 1) + b"\x09\0\0\0" + bytes(4)
         out += block(1, struct.pack(order + "HHI", 1, 0, 0) + options)
-    for interface, stamp, data in frames:
-        out += block(6, struct.pack(order + "IIIII", interface, stamp >> 32, stamp & 0xFFFFFFFF, len(data), len(data)) + data + bytes(-len(data) % 4))
+    for interface, stamp, data, *given in frames:
+        options = b"".join(struct.pack(order + "HH", code, len(value)) + value + bytes(-len(value) % 4) for code, value in given)
+        fields = struct.pack(order + "IIIII", interface, stamp >> 32, stamp & 0xFFFFFFFF, len(data), len(data))
+        out += block(6, fields + data + bytes(-len(data) % 4) + options + (bytes(4) if given else b""))
     return out
 
 
@@ -947,6 +949,12 @@ class Check(Case):
             two = pcapng(["eth0", "eth1"], both, order)
             drops = statistics(0, [(2, count(1)), (4, count(900)), (5, count(400)), (7, count(75))], order)
             of_second = statistics(1, [(5, count(3))], order)
+            # Each packet may say how many were dropped before it: 3 before the third of the first interface, 40 before the last of each.
+            before = {2: 3, 3: 40, 7: 40}
+            lossy = [(*one, (4, count(before.get(number, 0))), *[(1, b"seen")] * (number % 2)) for number, one in enumerate(both)]
+            long_comment = [(0, START, frame(5, 60, 1), (1, bytes(4_464)), (4, count(2**33)))]
+            huge = [(0, START + k * MS, frame(5, 60, k + 1), (1, bytes(40_000)), (4, count(1))) for k in range(20)]
+            other_code = [(0, START, frame(5, 60, 1), (5, count(9)), (4, count(9)[:4]))]
             for name, recording, choice, dropped in (
                 ("nothing", one, "", 0),
                 ("no drop", one + statistics(0, [(4, count(9)), (5, count(0))], order), "", 0),
@@ -962,6 +970,15 @@ class Check(Case):
                 ("the second interface", two + drops + of_second, ":1", 3),
                 ("the second interface by its name", two + drops + of_second, ":eth1", 3),
                 ("statistics before packets", pcapng(["eth0"], [], order) + drops + pcapng(["eth0"], frames, order), "", 0),
+                ("packets that were dropped before others", pcapng(["eth0"], lossy[:4], order), "", 43),
+                ("packets dropped, by interface", pcapng(["eth0", "eth1"], lossy, order), ":0", 43),
+                ("packets dropped, by the second interface's name", pcapng(["eth0", "eth1"], lossy, order), ":eth1", 40),
+                ("fewer at the end than before packets", pcapng(["eth0"], lossy[:4], order) + statistics(0, [(5, count(42))], order), "", 43),
+                ("more at the end than before packets", pcapng(["eth0"], lossy[:4], order) + statistics(0, [(5, count(44))], order), "", 44),
+                ("a count behind a long comment", pcapng(["eth0"], long_comment, order), "", 2**33),
+                ("counts over several blocks of a read", pcapng(["eth0"], huge, order), "", 20),
+                ("another option, and a count of four bytes", pcapng(["eth0"], other_code, order), "", 0),
+                ("two sections of two orders", pcapng(["eth0"], lossy[:4], order) + pcapng(["eth0"], lossy[:0], "<>"[order == "<"]) + pcapng(["eth0"], [(0, START + MS * 9, frame(5, 60, 9), (4, struct.pack("<>"[order == "<"] + "Q", 7)))], "<>"[order == "<"]), "", 50),
                 ("a pcap file that ends like statistics", header() + record(START, frame(5, 60, 1)) + record(START + 1, drops.ljust(100, b"\0")[-100:] + drops), "", 0),
             ):
                 write(paths[0], recording)

@@ -38,7 +38,7 @@ VERBS = (
 ).split()
 SAYS_WHAT_TO_DO = re.compile(rf"({'|'.join(VERBS)})\b")
 COMMAND = re.compile(r"(editcap|tcpdump) ")
-ODD_COMMENT = re.compile(r"(//[/!]?|--+( -+)?) (What|Whether|Who|Those|Of those)\b")
+ODD_COMMENT = re.compile(r"(//[/!]?|--+( -+)?) (what|whether|who|those|of those)\b", re.I)
 
 
 def pages():

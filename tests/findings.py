@@ -44,7 +44,7 @@ DRAWN = (
     (senders.too_fast, "bag", 1),
     (senders.bunched, "bunched clock", 1), (senders.too_long, "toolong", 2), (senders.late, "late clock", 2),
     (senders.skew_moves, "late clock", 2),
-    (senders.twice, "twice", 2), (senders.all_twice, "twice", 1), (senders.reordered, "reordered", 2), (senders.wrong_numbers, "stray", 2),
+    (senders.twice, "twice", 2), (senders.all_twice, "twice stuck", 1), (senders.reordered, "reordered", 2), (senders.wrong_numbers, "stray", 2),
     (senders.strays, "stray", 1), (senders.replayed, "stray", 1), (senders.stuck, "stuck", 1), (senders.no_number, "stuck", 1),
     (senders.jump, "jump", 1),
     (senders.skipped, "jump", 1), (senders.apart, "apart clock", 1), (senders.cut, "lost absent cut", 1), (senders.runt, "runt", 1),

@@ -55,14 +55,20 @@ def file_of(path, data, hashed):
     return {"path": path, "bytes": len(data), "sha256": digest(data) if hashed else None}
 
 
+def foreign_of(taken):
+    """The frames of another constant field, which have no EtherType, if there are some."""
+    foreign = [data for stamp, whole, data in taken if 64 <= whole + 4 <= 1518 and len(data) == whole and data[:4] != b"\x03\0\0\0"]
+    return [{"ethertype": "0x0000", "name": "without an EtherType", "frames": len(foreign)}] if foreign else None
+
+
 def recording_of(path, data, hashed, known=True):
     """A recording's members. Of a run that met a fault nothing is known but its bytes."""
     members = {"path": path, "files": None, **file_of(path, data, hashed)}
-    members.update(dict.fromkeys(("frames", "end", "reason", "first", "first_utc", "last", "last_utc", "dropped")))
+    members.update(dict.fromkeys(("frames", "end", "reason", "first", "first_utc", "last", "last_utc", "dropped", "torn", "tagged", "foreign", "crossed")))
     if known:
         taken, ending = parse(data)
         end, count, *reason = ending.split()
-        members.update(frames=int(count), end=end, reason=reason[0] if reason else None)
+        members.update(frames=int(count), end=end, reason=reason[0] if reason else None, tagged=0, foreign=foreign_of(taken))
         if taken:
             first, last = min(taken)[0], max(taken)[0]
             members.update(first=str(first), first_utc=utc(first), last=str(last), last_utc=utc(last))

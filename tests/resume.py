@@ -1,12 +1,15 @@
-"""`watch --resume-after-cut`: a recording goes on behind a file that ends within a packet, or has bytes that are no packet.
+"""`--resume-after-cut`: a recording goes on behind a file that ends within a packet, or has bytes that are no packet.
 
 Which packets are whole is known from where a file is torn, so the ledger and the capture have to be those of a run over files that
 have just these packets.
 """
+import json
 import os
 import random
+import subprocess
 
 from tests.harness import EVERY, SUCCESS, Case, difference, frame, put, read, run
+from tests.manifest import utc
 from tests.several import lay, pcap, pcapng
 from tests.watching import TABLE
 
@@ -116,3 +119,131 @@ class Resume(Case):
         named = [line for line in said if "goes on with the next file" in line]
         self.case("sixteen are named", "" if len(named) == 16 else f"{said}")
         self.case("four more", "" if "afdxmon: note: 4 more files end so" in said else f"{said}")
+
+
+STEP, LATER = 8 * MS, "the run goes on with the next file"
+LINKS = """constant = 50331648
+[[link]]
+id = 5
+name = "brake"
+bag_ms = 8
+jitter_us = 500
+smax = 1518
+integrity = true
+redundancy = true
+skew_us = 2000
+[[link]]
+id = 9
+name = "flap"
+bag_ms = 8
+jitter_us = 500
+smax = 1518
+integrity = true
+redundancy = true
+skew_us = 2000
+"""
+
+
+def periodic(count=500, late=0):
+    """Two links with a frame each 8 ms, as one network has them."""
+    for number in range(count):
+        for place, link in enumerate((5, 9)):
+            data = frame(link, 100, (number - 1) % 255 + 1 if number else 0)
+            yield START + number * STEP + place * MS + number * 7919 % 5003 + late, len(data), data
+
+
+class TornFlight(Case):
+    """A flight of two periodic links: one file of A is torn, so that A lacks the frames of a known time."""
+
+    def setUp(self):
+        super().setUp()
+        a, b = list(periodic()), list(periodic(late=100_000))
+        # The second of three files loses its last 30 packets, and the next one's bytes with them.
+        self.parts = [a[:300], a[300:600], a[600:]]
+        self.whole = [self.parts[0], self.parts[1][:270], self.parts[2]]
+        second = pcap(self.whole[1], "<", 1) + pcap(self.parts[1][270:271], "<", 1)[24:-1]
+        self.a = lay(self.folder, "torn", [pcap(self.parts[0], "<", 1), second, pcap(self.parts[2], "<", 1)])
+        self.clean = lay(self.folder, "whole", [pcap(part, "<", 1) for part in self.whole])
+        self.b = lay(self.folder, "b", [pcap(b, "<", 1)])
+        self.table = put(self.folder, "links.toml", LINKS)
+        self.last, self.next = self.whole[1][-1][0], self.parts[2][0][0]
+
+    def path(self, name):
+        return os.path.join(self.folder, name)
+
+    def watched(self, *more, a=None):
+        words = ["watch", "--config", self.table, "--a", *(a or self.a), "--b", *self.b, "--ledger", self.path("run.ledger")]
+        return run([*words, "--manifest", self.path("run.json"), *more])
+
+    def same(self, name, words, of_torn, of_whole, *more):
+        """A command says of the torn files, with the option, what it says of their whole packets."""
+        torn = run([*words, *of_torn, *more, "--resume-after-cut"], stdout=subprocess.PIPE)
+        whole = run([*words, *of_whole, *more], stdout=subprocess.PIPE)
+        expected = whole.stdout.replace(b"/whole_", b"/torn_")
+        fits = torn.stdout == expected and torn.returncode == whole.returncode == 0
+        self.case(name, "" if fits else f"{torn.returncode}, {torn.stdout[:300]}, not {expected[:300]}: {torn.args}")
+
+    def test_strict(self):
+        note = f"afdxmon: note: {self.a[1]} {CUT}: {LATER}"
+        self.judge("strict, torn", self.watched("--resume-after-cut", "--strict"), 3, note)
+        self.judge("not strict, torn", self.watched("--resume-after-cut"), 0, note)
+        self.judge("strict, whole", self.watched("--resume-after-cut", "--strict", a=self.clean), 0, "")
+
+    def test_manifest(self):
+        self.watched("--resume-after-cut")
+        torn = json.loads(read(self.path("run.json")))["inputs"]["a"]["torn"]
+        stamps = {"last": str(self.last), "last_utc": utc(self.last), "next": str(self.next), "next_utc": utc(self.next)}
+        self.case("the torn file", "" if torn == [{"path": self.a[1], "how": "cut", **stamps}] else f"{torn}")
+        of_b = json.loads(read(self.path("run.json")))["inputs"]["b"]["torn"]
+        self.case("none of B", "" if of_b is None else f"{of_b}")
+
+    def reported(self, *more):
+        words = ["report", "--config", self.table, "--ledger", self.path("run.ledger"), "--json", "-o", self.path("report.json"), *more]
+        ran = run(words)
+        self.judge("report", ran, 0, "")
+        return json.loads(read(self.path("report.json")))["findings"]
+
+    def test_report(self):
+        """By the manifest the numbers that are missing there are the recorder's; without it they look like a silence of A."""
+        self.watched("--resume-after-cut")
+        found = self.reported("--manifest", self.path("run.json"))
+        of_torn = [one for one in found if one["kind"] == "recording torn"]
+        missing = 30
+        fits = len(of_torn) == 1 and of_torn[0]["count"] == missing and of_torn[0]["networks"] == "A" and of_torn[0]["level"] == "notice"
+        self.case("one finding of 30 numbers", "" if fits else f"{of_torn}")
+        others = [one["kind"] for one in found if one["kind"] != "recording torn" and one["level"] != "info"]
+        self.case("no other finding", "" if others == [] else f"{others}")
+        without = [one["kind"] for one in self.reported()]
+        self.case("without the manifest", "" if "recording torn" not in without and without != [] else f"{without}")
+
+    def test_cut(self):
+        self.watched("--resume-after-cut")
+        words = ["cut", "--ledger", self.path("run.ledger"), "--link", "9", "-o", "-"]
+        self.same("cut", words, ["--a", *self.a, "--b", *self.b], ["--a", *self.clean, "--b", *self.b])
+        ran = run([*words, "--a", *self.a, "--b", *self.b], stdout=subprocess.PIPE)
+        self.judge("cut without the option", ran, 1, lambda text: text.startswith("afdxmon: cut "))
+
+    def test_links(self):
+        self.same("links", ["links"], ["--a", *self.a, "--b", *self.b], ["--a", *self.clean, "--b", *self.b])
+
+    def test_check(self):
+        words = ["check", "--config", self.table, "--a", *self.a, "--b", *self.b, "--resume-after-cut"]
+        ran = run(words, stdout=subprocess.PIPE)
+        lines = ran.stdout.decode().splitlines()
+        fits = ran.returncode == 1 and f"fault: of network A {self.a[1]} {CUT}" in lines and lines[-1] == "sound: no, 1 fault and 0 questions"
+        self.case("check", "" if fits else f"{ran.returncode} {lines}: {ran.args}")
+        answer = json.loads(run([*words, "--json"], stdout=subprocess.PIPE).stdout)
+        fits = answer["a"]["torn"] == [{"path": self.a[1], "how": "cut"}] and answer["b"]["torn"] == [] and answer["sound"] is False
+        self.case("check, as JSON", "" if fits else f"{answer['a']} {answer['b']}")
+
+    def test_transit(self):
+        words = ["transit", "--config", self.table]
+        self.same("transit", words, ["--before", *self.a, "--after", *self.b], ["--before", *self.clean, "--after", *self.b], "--json")
+
+    def test_first_packet(self):
+        """A file whose first packet is noise is no file out of order."""
+        for name, noise in (("zeros", bytes(160)), ("ones", b"\xff" * 160)):
+            files = [pcap(self.parts[0], "<", 1), pcap([], "<", 1) + noise, pcap(self.parts[2], "<", 1)]
+            paths = lay(self.folder, name, files)
+            ran = self.watched("--resume-after-cut", a=paths)
+            self.judge(f"a first packet of {name}", ran, 0, f"afdxmon: note: {paths[1]} {DAMAGED}: {LATER}")

@@ -227,7 +227,7 @@ Options:
       --workers <N>       The number of workers, 1 to 8 [default: 2]
       --late-us <N>       Take timestamps out of order by N microseconds, in place of the table's late_us
       --quiet             Leave out progress and summary at a terminal
-      --strict            End with status 3 where a recording ends early, not with 0
+      --strict            End with status 3 where a recording ends early or a file is torn, not with 0
       --resume-after-cut  Go on with the next file of a recording behind one that is cut or damaged
       --pcapng            Write the capture as pcapng, with verdicts as packet comments
   -v, --verbose           Tell standard error, whatever it is, what a terminal is told but progress
@@ -261,25 +261,26 @@ Usage: afdxmon cut [OPTIONS] --ledger <FILE> <--a <FILE>...|--b <FILE>...|--ledg
        afdxmon cut [OPTIONS] --ledger <FILE> <--before <FILE>...|--after <FILE>...>
 
 Options:
-      --ledger <FILE>   The ledger of the recordings
-      --a <FILE>        The recording of network A, pcap or pcapng files, or @LIST of paths
-      --b <FILE>        The recording of network B, pcap or pcapng files, or @LIST of paths
-      --before <FILE>   By a ledger of transits: the recording at the port in
-      --after <FILE>    By a ledger of transits: the recording at the port out
-      --config <FILE>   The table of virtual links: --link may then have their names
-      --link <LIST>     Virtual links, as '301-305,42' or 'engine_*'; '*' stands for any letters
-      --network <A|B>   The network
-      --verdict <LIST>  Words of the ledger's fields 6 to 9, 'discarded', 'faults' or 'delivered'
-      --from <TIME>     The first moment
-      --to <TIME>       The last moment
-      --span <LENGTH>   How long after --from the last moment is: '2s', '250ms', '80us'
-      --filters <MASK>  A mask of filters in hexadecimal: '06' is what filter 1 or 2 accepts
-      --around <N>      Take N frames of the same link before and after each selected one too [default: 0]
-      --ledger-only     Print the ledger's lines of the selected frames in place of packets
-      --pcapng          Write the capture as pcapng, with verdicts as packet comments
-  -o, --output <FILE>   The nanosecond pcap file to write, or the text file of lines [default: -]
-  -v, --verbose         Tell standard error, whatever it is, what a terminal is told but progress
-  -h, --help            Print help
+      --ledger <FILE>     The ledger of the recordings
+      --a <FILE>          The recording of network A, pcap or pcapng files, or @LIST of paths
+      --b <FILE>          The recording of network B, pcap or pcapng files, or @LIST of paths
+      --before <FILE>     By a ledger of transits: the recording at the port in
+      --after <FILE>      By a ledger of transits: the recording at the port out
+      --config <FILE>     The table of virtual links: --link may then have their names
+      --link <LIST>       Virtual links, as '301-305,42' or 'engine_*'; '*' stands for any letters
+      --network <A|B>     The network
+      --verdict <LIST>    Words of the ledger's fields 6 to 9, 'discarded', 'faults' or 'delivered'
+      --from <TIME>       The first moment
+      --to <TIME>         The last moment
+      --span <LENGTH>     How long after --from the last moment is: '2s', '250ms', '80us'
+      --filters <MASK>    A mask of filters in hexadecimal: '06' is what filter 1 or 2 accepts
+      --around <N>        Take N frames of the same link before and after each selected one too [default: 0]
+      --ledger-only       Print the ledger's lines of the selected frames in place of packets
+      --resume-after-cut  Go on with the next file of a recording behind one that is cut or damaged
+      --pcapng            Write the capture as pcapng, with verdicts as packet comments
+  -o, --output <FILE>     The nanosecond pcap file to write, or the text file of lines [default: -]
+  -v, --verbose           Tell standard error, whatever it is, what a terminal is told but progress
+  -h, --help              Print help
 
 Frames are written whole, as recorded, in the ledger's order. A frame is selected if it meets every
 option from --link to --filters that is given. With --around the ledger is read twice: it has to be
@@ -303,6 +304,7 @@ Options:
       --constant <NUMBER>  The constant field of the links' frames, as 0x03000000
       --icd <FILE>         The links that are specified: values separated by commas, semicolons or tabs
       --column <KEY=HEAD>  The head of a key's column in the ICD, as id='VL-Nr'; may be given again
+      --resume-after-cut   Go on with the next file of a recording behind one that is cut or damaged
   -v, --verbose            Tell standard error, whatever it is, what a terminal is told but progress
   -h, --help               Print help
 
@@ -324,6 +326,7 @@ Options:
       --config <FILE>           The table of virtual links, a TOML document
       --ledger <FILE>           The ledger of verdicts, as `afdxmon watch` writes it
       --manifest <FILE>         The manifest of the run, as `afdxmon watch` writes it
+      --expected <LIST>         Kinds of other traffic that the networks are to have, as 'ptp,lldp,0x88cc'
       --baseline <FILE>         The ledger of an earlier flight to compare with
       --baseline-config <FILE>  The table of that flight, where it was another one
       --transit <FILE>          A ledger of transits to tell of too, as `afdxmon transit` writes it
@@ -351,15 +354,16 @@ Example: a page on a run, and one that compares it with the flight before
 Usage: afdxmon check [OPTIONS] --config <FILE>
 
 Options:
-      --config <FILE>    The table of virtual links, a TOML document
-      --filter <FILE>    The filter in the numeric form, as `afdxmon asm` prints it
-      --a <FILE>         The recording of network A, pcap or pcapng files, or @LIST of paths
-      --b <FILE>         The recording of network B, pcap or pcapng files, or @LIST of paths
-      --expected <LIST>  Kinds of other traffic that the networks are to have, as 'ptp,lldp,0x88cc'
-      --whole            Read the recordings to their ends, not their first 1000000 frames
-      --json             Write the answer as JSON in place of text
-  -v, --verbose          Tell standard error, whatever it is, what a terminal is told but progress
-  -h, --help             Print help
+      --config <FILE>     The table of virtual links, a TOML document
+      --filter <FILE>     The filter in the numeric form, as `afdxmon asm` prints it
+      --a <FILE>          The recording of network A, pcap or pcapng files, or @LIST of paths
+      --b <FILE>          The recording of network B, pcap or pcapng files, or @LIST of paths
+      --expected <LIST>   Kinds of other traffic that the networks are to have, as 'ptp,lldp,0x88cc'
+      --whole             Read the recordings to their ends, not their first 1000000 frames
+      --resume-after-cut  Go on with the next file of a recording behind one that is cut or damaged
+      --json              Write the answer as JSON in place of text
+  -v, --verbose           Tell standard error, whatever it is, what a terminal is told but progress
+  -h, --help              Print help
 
 The answer goes to standard output; nothing else is written. Of each recording the first 1000000
 frames are read, by --whole all. The exit status is 0 where a run would be sound, else 1. '-' is
@@ -384,6 +388,7 @@ Options:
       --police <bytes|frames>  How the switch polices: by a frame's bytes, or each as its link's Smax [default: bytes]
       --grace-us <N>           How far the switch's and the taps' times between frames may differ [default: 1]
       --late-us <N>            Take timestamps out of order by N microseconds, in place of the table's late_us
+      --resume-after-cut       Go on with the next file of a recording behind one that is cut or damaged
       --ledger <FILE>          The ledger of transits to write
       --json                   Write the answer as JSON in place of text
   -v, --verbose                Tell standard error, whatever it is, what a terminal is told but progress
@@ -429,6 +434,7 @@ MISUSE = {
     "NoPolicing": "--police is neither bytes nor frames\n  Give one of them",
     "Uncaptured": "--pcapng says how a capture is written, and none is\n  Name one by --capture",
     "NoManifest": "--digest has no manifest to write digests to\n  Name one by --manifest",
+    "NoKinds": "--expected names kinds of traffic, and a ledger has none\n  Name the run's manifest, which has them, by --manifest",
     "NoBaseline": "--baseline-config is the table of a baseline, and none is given\n  Name its ledger by --baseline",
     "NoLateness": "--late-us is no number of microseconds, 0 to 1000000\n  Give one, or for capture and debug any",
     "Unordered": "--late-us any is for capture and debug: others put frames of two recordings in order\n  Give a number of microseconds, 0 to 1000000",

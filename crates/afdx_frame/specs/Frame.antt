@@ -15,7 +15,7 @@ pub record Frame : Type 0 where
   pub stamp : ℕ
   -- the length on the wire
   pub whole : ℕ
-  -- what the recording holds of it
+  -- the bytes that the recording holds of it
   pub bytes : List ℕ
 
 -- a frame of these parts

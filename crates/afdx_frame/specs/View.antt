@@ -21,6 +21,6 @@ link_of bytes = option_map (λ n. record { 0 = n }) (number_at 4 2 bytes)
 abbrev pub sequence_of : List ℕ → Option ℕ
 sequence_of bytes = number_at (length bytes - 1) 1 bytes
 
--- what lies between the Ethernet header's 14 bytes and the sequence number
+-- the bytes between the Ethernet header's 14 and the sequence number
 abbrev pub body_of : List ℕ → Option (List ℕ)
 body_of bytes = if nat_lt (length bytes) 15 then None else Some (take (length bytes - 15) (drop 14 bytes))

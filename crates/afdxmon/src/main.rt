@@ -121,11 +121,11 @@ fn carry_out<R: Threads + Wait + Sync>(
     rt: &HostRuntime,
     threads: &R,
     asked: CommandLine<'_>,
-) -> Exit {
+) -> u8 {
     let quiet = matches!(asked.command, Invocation::Watch(given) if given.quiet);
     let Ok(taps) = Taps::of(rt, asked.command) else {
         let _ = rt.eprintln(NO_RUN);
-        return Exit::Fault(NO_RUN);
+        return status_of(&Exit::Fault(NO_RUN));
     };
     let reporter = Reporter {
         told: AtomicBool::new(false),
@@ -133,9 +133,10 @@ fn carry_out<R: Threads + Wait + Sync>(
     };
     let command = taps.named(asked.command, [0, 0]);
     let (Ok(outcome) | Err(outcome)) = run(rt, threads, command, &taps, &reporter);
+    let status = status(asked.command, &outcome.exit, &taps);
     // Where standard error is a full file, the status alone tells how the command ended.
     if !takes_messages(rt) {
-        return outcome.exit;
+        return status;
     }
     if !reporter.told.load(Ordering::SeqCst) {
         tell_end(rt, asked.command, &taps, &outcome, reporter.full);
@@ -143,7 +144,7 @@ fn carry_out<R: Threads + Wait + Sync>(
     if asked.verbose || (reporter.full && !quiet) {
         let _ = summarise(rt, &outcome, &taps);
     }
-    outcome.exit
+    status
 }
 
 /// Does the environment ask for what `--verbose` asks for?
@@ -154,11 +155,11 @@ fn is_verbose(rt: &HostRuntime) -> bool {
     }
 }
 
-/// The exit status. A strict run fails where a recording ends early.
-fn status(command: Invocation<'_>, exit: &Exit) -> u8 {
+/// The exit status. A strict run fails where a recording ends early, or went on behind a torn file.
+fn status(command: Invocation<'_>, exit: &Exit, taps: &Taps) -> u8 {
     let strict = matches!(command, Invocation::Watch(given) if given.strict);
     match status_of(exit) {
-        0 if strict && exit.is_early() => FAILED,
+        0 if strict && (exit.is_early() || taps.are_torn()) => FAILED,
         status => status,
     }
 }
@@ -182,7 +183,7 @@ fn main(rt: HostRuntime) -> ExitCode {
                 verbose: asked.verbose || is_verbose(&rt),
                 ..asked
             };
-            status(asked.command, &carry_out(&rt, &rt, asked))
+            carry_out(&rt, &rt, asked)
         }
         Err(answer) => print_answer(&rt, &answer, &arguments),
     };

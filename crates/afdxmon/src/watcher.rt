@@ -3,12 +3,15 @@
 use afdx_frame::Network;
 use command_line::{Fault, Invocation, WatchArguments};
 use filter_workers::RunGate;
+use frame_batch::Round;
 use messages::{CommandEnd, tell};
 use run_fault::{Output, WatchFault};
 use std::io;
+use std::sync::Mutex;
 use std::sync::atomic::{AtomicBool, Ordering};
 use tap_inputs::{Cause, Outcome, Pauses, Progress, SharedBlocks, Taps};
 use tap_queue::TapGate;
+use traffic_survey::Traffic;
 use watch_run::RunObserver;
 
 /// The reporter that tells standard error of a run.
@@ -32,6 +35,8 @@ pub struct Watcher<'a> {
     progress: Option<&'a Progress>,
     pauses: Option<&'a Pauses>,
     reporter: &'a Reporter,
+    /// The counts of what frames carry, if the manifest is to have them.
+    traffic: Mutex<Option<Traffic<'a>>>,
 }
 
 impl<'a> Watcher<'a> {
@@ -54,6 +59,37 @@ impl<'a> Watcher<'a> {
             progress,
             pauses,
             reporter,
+            traffic: Mutex::new(None),
+        }
+    }
+
+    /// The same, which counts what frames carry.
+    pub fn counting(self, traffic: Option<Traffic<'a>>) -> Watcher<'a> {
+        Watcher {
+            traffic: Mutex::new(traffic),
+            ..self
+        }
+    }
+
+    /// The counts of what frames carry, if they are whole.
+    pub fn take_traffic(&self) -> Option<Traffic<'a>> {
+        self.traffic.try_lock()?.take()
+    }
+
+    /// Counts the frames of a round. Without memory for all counts there are none.
+    fn count(&self, round: &Round) {
+        let Some(mut counted) = self.traffic.try_lock() else {
+            return;
+        };
+        let Some(traffic) = counted.as_mut() else {
+            return;
+        };
+        let mut whole = true;
+        for index in 0..round.len() {
+            whole &= traffic.see(&round.frame(index)).is_ok();
+        }
+        if !whole {
+            *counted = None;
         }
     }
 
@@ -92,10 +128,11 @@ impl<'a> Watcher<'a> {
 }
 
 impl RunObserver for Watcher<'_> {
-    fn judges(&self, frames: usize) {
+    fn judges(&self, round: &Round) {
         if let Some(progress) = self.progress {
-            progress.add_frames(frames);
+            progress.add_frames(round.len());
         }
+        self.count(round);
     }
 
     /// Tells at once that an output can't be written. No thread can end the read that another waits in, so

@@ -19,6 +19,7 @@ use tap_inputs::{
     Blocks, Cause, Outcome, OutputStream, Pauses, Progress, Reading, Skipped, TapEnd, TapFiles,
     Taps, end_of, files_of, open_tap,
 };
+use traffic_survey::Traffic;
 use vl_config::Config;
 use watch_run::{Plan, RunSizes, Watched, sized_watch};
 
@@ -110,7 +111,7 @@ fn settle<'p>(
         Watched<TapFiles<'p>, TapFiles<'p>, CaptureSink, LedgerSink>,
         WatchRefused<TapFiles<'p>, TapFiles<'p>, CaptureSink, LedgerSink>,
     >,
-) -> (Outcome, RunSums) {
+) -> (Outcome, RunSums<'p>) {
     let (outcome, worst, [a, b], capture, ledger) = match run {
         Ok(done) => {
             let [a, b] = done.endings;
@@ -152,8 +153,7 @@ fn settle<'p>(
         detail: None,
         unread: None,
     };
-    let read = [a.map(|end| end.sums), b.map(|end| end.sums)];
-    (ended, RunSums::new(read, sums, ledger.into_spans()))
+    (ended, RunSums::new([a, b], sums, ledger.into_spans()))
 }
 
 /// The inputs of a run over two recordings: the arguments, the table, and the filters.
@@ -192,7 +192,6 @@ fn watch_networks<'x, R: Threads + Wait + Sync>(
         hashed: given.digest,
         progress: progress.as_ref(),
         pauses,
-        resumes: given.resumes,
     };
     let of_b = Reading {
         network: Network::B,
@@ -200,8 +199,15 @@ fn watch_networks<'x, R: Threads + Wait + Sync>(
     };
     let a = files_of(of_a, taps.of_network(Network::A), a, None)?;
     let b = files_of(of_b, taps.of_network(Network::B), b, None)?;
-    let spans = manifest.as_ref().map(|_| Spans::new());
-    let (ended, sums) = run_watch(threads, analysis, of_a, (a, b), (capture, ledger), spans)?;
+    let (spans, traffic) = match manifest {
+        Some(_) => (
+            Some(Spans::new()),
+            Some(Traffic::new(rt.alloc(), analysis.config)?),
+        ),
+        None => (None, None),
+    };
+    let seen = (spans, traffic);
+    let (ended, sums) = run_watch(threads, analysis, of_a, (a, b), (capture, ledger), seen)?;
     match manifest {
         Some(output) => {
             Ok(with_manifest(rt, (given, taps), analysis.texts, ended, &sums, output))
@@ -213,12 +219,12 @@ fn watch_networks<'x, R: Threads + Wait + Sync>(
 /// Carries out a run over two recordings, into a capture and a ledger.
 fn run_watch<'p, R: Threads + Wait + Sync>(
     threads: &R,
-    analysis: &Analysis<'_>,
+    analysis: &Analysis<'p>,
     reading: Reading<'p>,
     (a, b): (TapFiles<'p>, TapFiles<'p>),
     (capture, ledger): (Blocks, Blocks),
-    spans: Option<Spans>,
-) -> Result<(Outcome, RunSums), Outcome> {
+    (spans, traffic): (Option<Spans>, Option<Traffic<'p>>),
+) -> Result<(Outcome, RunSums<'p>), Outcome> {
     let Reading {
         rt,
         progress,
@@ -237,7 +243,8 @@ fn run_watch<'p, R: Threads + Wait + Sync>(
         progress,
         pauses,
         reporter,
-    );
+    )
+    .counting(traffic);
     let plan = Plan {
         programs: analysis.programs,
         format: format_of(given.pcapng, Interfaces::Networks, Some(analysis.config)),
@@ -258,7 +265,8 @@ fn run_watch<'p, R: Threads + Wait + Sync>(
     if let Some(progress) = progress {
         progress.erase(rt);
     }
-    Ok(settle(rt, analysis.config, run))
+    let (ended, sums) = settle(rt, analysis.config, run);
+    Ok((ended, sums.with_traffic(watcher.take_traffic())))
 }
 
 /// Judges and filters the frames of two recordings that may pause, while another thread tells of pauses.

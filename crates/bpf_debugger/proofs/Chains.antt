@@ -72,7 +72,7 @@ chain_run p frame loaded =
 pub each_chain_is_its_run : EachChainIsItsRun
 each_chain_is_its_run p loaded frame states answer runs = chain_is p frame loaded states answer runs
 
--- what a state's instruction needs
+-- all that a state's instruction needs
 stands_inside : (p : List Packed) (frame : Frame) (u : State) (o : Outcome) (insn : Option Packed) → slice_get p u.place ≡ insn → option_and_then (λ w. step_of w u frame.bytes frame.whole) insn ≡ Some o → u.place < length p
 stands_inside p frame u o None is e = cc
 stands_inside p frame u o (Some w) is e = slice_get_within p u.place w is

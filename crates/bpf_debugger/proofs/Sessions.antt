@@ -16,7 +16,7 @@ use Rattle.bpf_debugger.specs.Walking.{IsOn, position_of, moved_by, next_stop}
 use Rattle.bpf_debugger.specs.Debugging.{chain_at, Shows, Gives}
 use Rattle.bpf_debugger.specs.Standing.{IsOnFrame, session_state}
 
--- those that a test passes and the others are all, counted on from a and b
+-- the elements that a test passes and the others are all, counted on from a and b
 both_from : {X : Type 0} (test : X → Bool) (xs : List X) (a b : ℕ) → fold (λ n x. n + (if test x then 1 else 0)) a xs + fold (λ n x. n + (if not (test x) then 1 else 0)) b xs ≡ a + b + length xs
 both_from test [] a b = omega arith
 both_from test (x ∷ xs) a b =

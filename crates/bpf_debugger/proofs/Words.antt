@@ -35,7 +35,7 @@ skips_spaces (c ∷ cs) =
           ap (λ n. words_of (drop n (c ∷ cs))) (sym m)
     ]
 
--- what follows a word, from the space on that ended it
+-- all that follows a word, from the space on that ended it
 from_end : (bs : List ℕ) → position_or_len is_space bs < length bs → words_of (drop (position_or_len is_space bs + 1) bs) ≡ words_of (drop (position_or_len is_space bs) bs)
 from_end bs lt =
     let n = position_or_len is_space bs in

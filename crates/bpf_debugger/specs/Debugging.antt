@@ -27,7 +27,7 @@ pub record SessionState : Type 0 where
   pub frames : List Frame
   -- none before the first frame is selected
   pub place : Option Position
-  -- whether an instruction has a breakpoint, for each instruction
+  -- true if an instruction has a breakpoint, for each instruction
   pub breakpoints : List Bool
 
 abbrev pub new_session : List Packed → List Frame → SessionState
@@ -50,7 +50,7 @@ with_position s moved = record {
   breakpoints = s.breakpoints;
 }
 
--- whether an instruction has a breakpoint
+-- true if an instruction has a breakpoint
 abbrev pub has_breakpoint : SessionState → ℕ → Bool
 has_breakpoint s n = slice_index_or s.breakpoints n false
 

@@ -14,7 +14,7 @@ AreRecords p [] (r ∷ rs) = ⊥
 AreRecords p (Done answer ∷ chain) (r ∷ rs) = ⊥
 AreRecords p (On s ∷ chain) (r ∷ rs) = (r ≡ record_of p s) × AreRecords p chain rs
 
--- what is shown of the last state and, at the end, of the return value
+-- all that is shown of the last state and, at the end, of the return value
 abbrev pub shown_of : State → Option ℕ → Outcome
 shown_of s None = On s
 shown_of s (Some answer) = Done answer

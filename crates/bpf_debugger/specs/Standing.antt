@@ -19,7 +19,7 @@ pub record IsSession (p : List Packed) (frames : List Frame) (breakpoints : List
   pub each_insn : length breakpoints ≡ length p
   pub walks : MatchOption selected ⊤ (IsOnFrame p frames walk)
 
--- what callers see of a session
+-- the state of a session, as callers see it
 abbrev pub session_state : List Packed → List Frame → List Bool → Option ℕ → Walk → SessionState
 session_state p frames breakpoints selected walk = record {
   program = p;

@@ -138,7 +138,7 @@ items_take at bs =
           ∙ ap (cons_option (item_of (numbers_in at (take n bs)))) (sym (ap (items_in (at + n)) none ∙ items_none (at + n)))
     ]
 
--- ---- what the reader does
+-- ---- all that the reader does
 
 -- rest is what follows the bytes in prefix that p passes: there are no others, or its first isn't one
 stops : (p : ℕ → Bool) (bs rest : List ℕ) → rest ≡ drop (prefix_len p bs) bs → 0 < length rest → p (get_or rest 0 0) ≡ false

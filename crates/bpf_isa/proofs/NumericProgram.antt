@@ -27,7 +27,7 @@ uncounted : (end : ℕ) (first : Item) (others : List Item) (e : NumericFault) �
 unfolding program_of
 uncounted end first others e h = rw h refl
 
--- what is known once the first item stands
+-- all that is known once the first item stands
 pub record Begins (text : List ℕ) (first : Item) (others : List Item) : Type 0 where
   pub known : None ≡ position (λ b. not (is_allowed b)) text
   pub items : items_in 0 text ≡ first ∷ others

@@ -20,7 +20,7 @@ grows : (n : ℕ) (digits : List ℕ) → n ≤ fold next_value n digits
 grows n [] = omega arith
 grows n (d ∷ digits) = omega (arith, grows (next_value n d) digits)
 
--- what more digits follow makes it no smaller
+-- further digits make it no smaller
 pub value_large : (digits : List ℕ) (i most : ℕ) → most < value_of (take i digits) → most < value_of digits
 unfolding value_of
 value_large digits i most lt =

@@ -123,7 +123,7 @@ length-intersect_masks (pc ∷ pcs) masks mask =
 
 -- ---- the mask after an instruction
 
--- whether this is the slot that is stored
+-- true if this is the slot that is stored
 abbrev stores_this : Option ℕ → ℕ → Bool
 stores_this stored slot = option_map_or (λ k. k == slot) stored false
 
@@ -140,7 +140,7 @@ lacks_after None before slot below e other = e
 lacks_after (Some k) before slot below e other =
     bit_at_set_other w16 before k below slot (λ h. eqb-false k slot other (sym h)) ∙ e
 
--- ---- what the masks say
+-- ---- all that the masks say
 
 -- The masks before the instruction at a pc is passed. A bit is 0 only where some path has not stored the slot; it is 0
 -- wherever such a path has come through the pcs passed; and no read passed was of a slot that some path had not stored.
@@ -273,7 +273,7 @@ below_by : (r : Option ℕ) (t : ℕ → Bool) → ((slot : ℕ) → t slot ≡ 
 below_by None t is below = tt
 below_by (Some k) t is below = below k (is k ∙ eq-eqb k k refl)
 
--- what the instruction at a pc unpacks to, in a program whose instructions are sound
+-- the typed instruction at a pc, in a program whose instructions are sound
 pub record Unpacked (p : List Packed) (pc : ℕ) (i : Insn) : Type 0 where
   pub w : Packed
   pub at : slice_get p pc ≡ Some w

@@ -184,7 +184,7 @@ firsts_have (Either f g) token h e = go (firsts_have f token h) (firsts_have g t
     go left right None o = has-append (token_key token) (firsts f) (firsts g) ∙ or_right (has (token_key token) (firsts f)) (has (token_key token) (firsts g)) (right (ap (λ (p : Option Form). option_or p (after g token)) (sym o) ∙ e))
     go left right (Some k) o = has-append (token_key token) (firsts f) (firsts g) ∙ or_left (has (token_key token) (firsts f)) (has (token_key token) (firsts g)) (left (o ∙ (ap (λ (p : Option Form). option_or p (after g token)) (sym o) ∙ e)))
 
--- what the one list has the other lacks
+-- the one list has nothing of the other
 apart_lacks : (k : ℕ) (xs ys : List ℕ) → apart xs ys ≡ true → has k xs ≡ true → has k ys ≡ true → ⊥
 apart_lacks k [] ys e h g = absurd (cc)
 apart_lacks k (x ∷ xs) ys e h g = go (apart_lacks k xs ys (and_right (not (has x ys)) (apart xs ys) e)) (x == k) refl h

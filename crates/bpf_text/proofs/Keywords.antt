@@ -30,7 +30,7 @@ pub row_passed : (rows : List Row) (i : ℕ) (d : Row) (name : List ℕ) → i <
 row_passed rows i d name below is =
     row_at rows i d name below ∙ ap (λ (b : Bool). cond b (Some (get_or rows i d).1) (keyword_in (rows_of (drop (i + 1) rows)) name)) is
 
--- what `eq_ignore_ascii_case` answers is the test of the specification
+-- the answer of `eq_ignore_ascii_case` is the test of the specification
 pub spelled : (r : Bool) (a b : List ℕ) → Decides r (map to_ascii_lowercase a ≡ map to_ascii_lowercase b) → str_eq_ignore_ascii_case a b ≡ r
 spelled r a b test = same_from_decides (str_eq_ignore_ascii_case a b) r (bytes_eq-Decides (map to_ascii_lowercase a) (map to_ascii_lowercase b)) test
 

@@ -204,7 +204,7 @@ minus_reads k f h (Lexed lexeme ∷ items) = go lexeme.at lexeme.token
     go at (Num n) = bool_cases (nat_le n (2 ^ 31)) (λ e. rw e (h ((2 ^ 32 - n) % 2 ^ 32) items)) (λ e. rw e refl)
     go at (Mark c) = refl
 
--- what reading a form gives at its first token
+-- the result of reading a form at its first token
 abbrev at_token : Form → ℕ → Token → List Item → Read Statement
 at_token f at token items = read (Lexed (record { at = at; token = token }) ∷ items) f
 

@@ -113,7 +113,7 @@ items_token text at n within none e some fits =
 pub next_at_end : (text : List ℕ) (at : ℕ) → at ≡ length text → next_token (items_at text at) ≡ Err (Form at)
 next_at_end text at e = ap next_token (items_end text at e)
 
--- what the item at an offset is, by the byte there
+-- the item at an offset, by the byte there
 item_by : (text : List ℕ) (at : ℕ) → at < length text → item_at at (drop at text) ≡ cond (is_word_byte (get_or text at 0)) (word_item at (word_at (drop at text))) (cond (is_mark (get_or text at 0)) (Lexed (record { at = at; token = Mark (get_or text at 0) })) (Bad (Character at)))
 item_by text at within =
     let bytes = bytes_from text at within in
@@ -189,7 +189,7 @@ other_is_token at b mark items =
     elim (is_mark b) as (λ (t : Bool). (at_end (cond t (Lexed (record { at = at; token = Mark b })) (Bad (Character at)) ∷ items) ≡ false) × ((b == mark) ≡ false → begins_with_mark mark (cond t (Lexed (record { at = at; token = Mark b })) (Bad (Character at)) ∷ items) ≡ false))
     [ true ↦ (refl, λ h. h) | false ↦ (refl, λ h. refl) ]
 
--- what stands in a text before its end
+-- all that stands in a text before its end
 inside : (text : List ℕ) (at mark : ℕ) → at < length text → blank_len (byte_before text at) (drop at text) ≡ 0 → (at_end (items_at text at) ≡ false) × ((get_or text at 0 == mark) ≡ false → begins_with_mark mark (items_at text at) ≡ false)
 inside text at mark within none = go (is_word_byte (get_or text at 0)) refl
   where

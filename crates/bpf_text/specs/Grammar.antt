@@ -49,7 +49,7 @@ pub data Symbol : Type 0 where
   AnyName : Symbol  -- a name that is no keyword
   AnyMnemonic : Symbol
 
--- what the token says
+-- the value that the token says
 abbrev pub Said : Symbol → Type 0
 Said Size = ℕ
 Said Opposite = ℕ
@@ -60,7 +60,7 @@ Said _ = Unit {0}
 abbrev pub when : {T : Type 0} → Bool → T → Option T
 when b x = if b then Some x else None
 
--- what the token says as this symbol, if it is one
+-- the value that the token says as this symbol, if it is one
 abbrev pub fits : (s : Symbol) → Token → Option (Said s)
 fits (Sign mark) (Mark b) = when (b == mark) tt
 fits TheX (Word WordX) = Some tt
@@ -106,7 +106,7 @@ number f = Then Size f or mark 43 (Then Size f) or mark 45 (Then Opposite f)
 abbrev pub register : Form → Form
 register f = Then TheX (λ _. f) or mark 37 (Then TheX (λ _. f))
 
--- what stands after [: n] or R + n]
+-- all that stands after [: n] or R + n]
 abbrev pub packet : (Operand → Form) → Form
 packet f = register (mark 43 (number (λ n. mark 93 (f (Indirect n))))) or number (λ n. mark 93 (f (Absolute n)))
 
@@ -217,7 +217,7 @@ IsSourceOf items ss = (lexemes : List Lexeme) × (at : ℕ) × (items ≡ map Le
 
 -- ---- Faults: the first item with which nothing goes on
 
--- what of a form may follow, after the token as its first
+-- the rest of a form that may follow, after the token as its first
 abbrev pub after : Form → Token → Option Form
 after (Gives s) token = None
 after (Then s f) token = option_map f (fits s token)
@@ -258,7 +258,7 @@ IsRefused f (Lexed lexeme ∷ items) fault = (after f lexeme.token ≡ None) × 
 IsRefused f (Bad lexical ∷ items) fault = fault ≡ lexical
 IsRefused f (End at ∷ items) fault = fault ≡ FormAt at
 
--- what of a form may follow, after the tokens
+-- the rest of a form that may follow, after the tokens
 abbrev pub Leaves : Form → List Lexeme → Form → Type 0
 Leaves f [] g = f ≡ g
 Leaves f (lexeme ∷ lexemes) g = (h : Form) × (after f lexeme.token ≡ Some h) × Leaves h lexemes g

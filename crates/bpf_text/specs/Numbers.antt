@@ -20,7 +20,7 @@ radix_of word =
     else (if slice_index word 0 == 48 then 8
     else 10))
 
--- what follows 0x or 0b; the 0 of an octal number is a digit
+-- all that follows 0x or 0b; the 0 of an octal number is a digit
 abbrev pub digits_of : List ℕ → List ℕ
 digits_of word = if has_prefix 88 word || has_prefix 66 word then drop 2 word else word
 

@@ -11,7 +11,7 @@ use Rattle.bpf_text.specs.declared.statement.Source.TheVariants.{K, X}
 use Rattle.bpf_text.specs.Grammar.{Operand, Nothing, Immediate, Absolute, Indirect, Scratch, HeaderLength, Len, Value, A, Target, Branch, Statement}
 use Rattle.bpf_text.specs.Tokens.{Token, Word, Name, Num, Mark, Item, next_token, after_mark, is_mark_token}
 
--- what a rule reads from the items, and the items after it; or the fault
+-- the reading of a rule from the items, and the items after it; or the fault
 abbrev pub Read : Type 0 → Type 0
 Read T = Result (T × List Item) TextFault
 

@@ -21,7 +21,7 @@ pub record Lexeme : Type 0 where
   pub at : ℕ
   pub token : Token
 
--- what the text has in one place: a token, or a fault in its place, or its end
+-- the item in one place of a text: a token, or a fault in its place, or its end
 pub data Item : Type 0 where
   Lexed : Lexeme → Item
   Bad : TextFault → Item
@@ -82,7 +82,7 @@ word_item at word =
     if is_ascii_digit (slice_index word 0) then option_map_or (λ n. Lexed (record { at = at; token = Num n })) (number_of word) (Bad (Number at))
     else Lexed (record { at = at; token = name_token word })
 
--- what stands at an offset, by the bytes from there on
+-- the item at an offset, by the bytes from there on
 abbrev pub item_at : ℕ → List ℕ → Item
 item_at at [] = End at
 item_at at (b ∷ bytes) =
@@ -134,7 +134,7 @@ begins_with_mark mark (Lexed lexeme ∷ items) = is_mark_token mark lexeme.token
 begins_with_mark mark (Bad fault ∷ items) = false
 begins_with_mark mark (End at ∷ items) = false
 
--- whether the next token is this mark, and the items after it if it is
+-- true if the next token is this mark, and the items after it if it is
 abbrev pub after_mark : ℕ → List Item → Bool × List Item
 after_mark mark items = if begins_with_mark mark items then (true, drop 1 items) else (false, items)
 

@@ -20,7 +20,7 @@ lexeme_of lexeme = record { at = lexeme.at; token = token_of lexeme.token }
 abbrev pub items : Lexer → List tokens.Item
 items lexer = tokens.items_at lexer.text.now lexer.at
 
--- what a function read at an offset
+-- the item that a function read at an offset
 abbrev pub item_of : ℕ → Result Token TextFault → tokens.Item
 item_of at (Ok token) = tokens.Lexed (record { at = at; token = token_of token })
 item_of at (Err fault) = tokens.Bad fault

@@ -24,7 +24,7 @@ pub written_more : (format : Format) (p : List Packed) (a b c : Option (List ℕ
 written_more format p a b c fs f first next =
     subst (Appends a c) (sym (packets_of-snoc format p fs f)) (Appends-trans a b c (packets_of format p fs) (packet_of format p f) first next)
 
--- what a capture begins with, and then the packets
+-- the head of a capture, and then the packets
 pub written_after : (format : Format) (p : List Packed) (a b c : Option (List ℕ)) (fs : List Frame) → Appends a b (head_by format)
     → Appends b c (packets_of format p fs) → Appends a c (capture_by format p fs)
 written_after format p a b c fs first next = Appends-trans a b c (head_by format) (packets_of format p fs) first next

@@ -14,7 +14,7 @@ use Rattle.run_fault.specs.declared.fault.WatchFault.TheVariants as watch
 use Rattle.capture_run.specs.OneCapture.{packet_of, packets_of}
 use Rattle.capture_run.specs.Copy.{Copying, StopsCopy, WritesAccepted}
 
--- what a call wrote, in the writer's first format and of the frame that was lent
+-- all that a call wrote, in the writer's first format and of the frame that was lent
 pub written_in : (p : List Packed) (was format : Format) (lent frame : Frame) (old new : Option (List ℕ)) (before after : ℕ) → was ≡ format → lent ≡ frame
     → WritesAccepted was p lent (Ok tt) old new before after → Appends old new (packet_of format p frame) × (after ≡ before)
 written_in p was format lent frame old new before after same is h =

@@ -8,7 +8,7 @@ use Rattle.run_fault.specs.Device.{Devices}
 use Rattle.command_line.specs.declared.fault.Fault.{Fault}
 use Rattle.command_line.specs.declared.fault.Fault.TheVariants as fault
 
--- what a capture in a format by a filter came to, and what it leaves; a timestamp may lie `late` nanoseconds below the greatest before it
+-- the outcome of a capture in a format by a filter, and what it leaves; a timestamp may lie `late` nanoseconds below the greatest before it
 abbrev pub IsCaptureBy : Format → ℕ → List Packed → Result Ending Fault → Devices → Devices → Type 0
 IsCaptureBy format late p (Ok ending) before after = IsCapturedBy format late p ending before after
 IsCaptureBy format late p (Err (fault.Watch w)) before after = IsAbortedBy format late p w before after

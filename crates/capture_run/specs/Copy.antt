@@ -25,10 +25,10 @@ WritesAccepted format p f (Err (watch.Write output.Capture)) old new before afte
 WritesAccepted format p f (Err watch.Memory) old new before after = IsPcapng format × (0 < answer_for p f) × (new ≡ old) × (after ≡ before)
 WritesAccepted format p f (Err fault) old new before after = ⊥
 
--- what a copy's reader and writer show
+-- the view of a copy's reader and writer
 pub record Copying : Type 0 where
   pub reading : Reading
-  -- what the reader read ahead of its position
+  -- all that the reader read ahead of its position
   pub unread : List ℕ
   pub contents : Option (List ℕ)
   pub failures : ℕ

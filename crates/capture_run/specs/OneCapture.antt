@@ -47,7 +47,7 @@ abbrev pub accepted : List Packed → List Frame → List Frame
 accepted p [] = []
 accepted p (f ∷ fs) = if answer_for p f == 0 then accepted p fs else f ∷ accepted p fs
 
--- ---- what a run saw of its devices
+-- ---- all that a run saw of its devices
 
 -- neither device failed
 pub record NoFailures (before after : Devices) : Type 0 where

@@ -2,7 +2,7 @@
 
 use command_line::Fault;
 use table_check::TableFault;
-use tap_inputs::Disorder;
+use tap_inputs::{Disorder, Tap};
 use traffic_survey::{Format, Inputs, Look, Question, Recorded};
 use vl_config::Config;
 
@@ -19,6 +19,8 @@ pub struct FilterAnswer {
 pub struct TapAnswer<'a> {
     /// The name for a person.
     pub name: &'a str,
+    /// Its files, which may be torn.
+    pub tap: &'a Tap,
     pub format: Option<Format>,
     pub recorded: Recorded,
     /// How many per cent of its bytes were read, if its files' lengths are known.

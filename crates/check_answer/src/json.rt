@@ -3,7 +3,6 @@
 use crate::advice::QuestionAdvice;
 use crate::answer::{Answer, FilterAnswer, TapAnswer};
 use crate::faults::{ToldFault, told_faults};
-use crate::lines::kind_word;
 use crate::questions::QuestionText;
 use crate::verdict::verdict_of;
 use crate::words::{Utc, format_words, question_word};
@@ -14,6 +13,7 @@ use serde::Serialize;
 use serde_json::Error;
 use std::alloc::{AllocError, Global};
 use std::fmt::Write;
+use tap_inputs::Tap;
 use traffic_survey::{Kind, Overlap, Question};
 
 #[derive(Drop, Serialize)]
@@ -45,6 +45,13 @@ struct JsonFilter {
     fault: Option<String>,
 }
 
+/// A file that is torn, behind which the recording goes on.
+#[derive(Drop, Serialize)]
+struct JsonTorn<'a> {
+    path: &'a str,
+    how: &'static str,
+}
+
 /// Timestamps are in nanoseconds since 1970, as decimal strings, and in UTC.
 #[derive(Drop, Serialize)]
 struct JsonTap<'a> {
@@ -61,6 +68,7 @@ struct JsonTap<'a> {
     last_utc: Option<String>,
     not_ethernet: u64,
     dropped: u64,
+    torn: Vec<JsonTorn<'a>>,
 }
 
 #[derive(Drop, Serialize)]
@@ -154,6 +162,19 @@ fn filters_of(alloc: Global, filters: &[FilterAnswer]) -> Result<Vec<JsonFilter>
     Ok(list)
 }
 
+fn torn_of(alloc: Global, tap: &Tap) -> Result<Vec<JsonTorn<'_>>, AllocError> {
+    let mut list = Vec::new(alloc);
+    for (number, file) in tap.files.iter().enumerate() {
+        if let Some(how) = tap.torn(number) {
+            list.push(JsonTorn {
+                path: &file.path,
+                how: how.word(),
+            })?;
+        }
+    }
+    Ok(list)
+}
+
 fn tap_of<'a>(alloc: Global, tap: &TapAnswer<'a>) -> Result<JsonTap<'a>, AllocError> {
     let recorded = tap.recorded;
     let mut json = JsonTap {
@@ -177,6 +198,7 @@ fn tap_of<'a>(alloc: Global, tap: &TapAnswer<'a>) -> Result<JsonTap<'a>, AllocEr
         last_utc: None,
         not_ethernet: tap.skipped,
         dropped: tap.dropped,
+        torn: torn_of(alloc, tap.tap)?,
     };
     if let Some(span) = recorded.span {
         json.first = Some(decimal(alloc, span.least)?);
@@ -262,7 +284,7 @@ fn unlisted_of(alloc: Global, answer: &Answer<'_>) -> Result<Vec<JsonUnlisted>, 
 fn kind_of(kind: &Kind, expected: bool) -> JsonKind {
     JsonKind {
         ethertype: Some(kind.ethertype),
-        kind: kind_word(kind.ethertype),
+        kind: kind.name(),
         frames: kind.frames,
         expected,
     }

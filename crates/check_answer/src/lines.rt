@@ -86,20 +86,6 @@ pub fn push_unlisted(out: &mut String, inputs: &Inputs<'_>) -> Result<(), AllocE
     push_more(out, count)
 }
 
-/// The protocol of an EtherType. None: it is told as a number.
-pub(crate) fn kind_word(ethertype: u16) -> Option<&'static str> {
-    match ethertype {
-        0 => Some("without an EtherType"),
-        0x0800 => Some("IPv4"),
-        0x0806 => Some("ARP"),
-        0x8100 => Some("802.1Q"),
-        0x86dd => Some("IPv6"),
-        0x88cc => Some("LLDP"),
-        0x88f7 => Some("PTP"),
-        _ => None,
-    }
-}
-
 /// Writes kinds with their frames, and how many frames there are of further ones.
 fn push_kinds(out: &mut String, kinds: &[Kind], others: u64) -> Result<(), AllocError> {
     for (index, kind) in kinds.iter().enumerate() {
@@ -116,7 +102,7 @@ fn push_kinds(out: &mut String, kinds: &[Kind], others: u64) -> Result<(), Alloc
 
 fn push_kind(out: &mut String, kind: Kind) -> Result<(), AllocError> {
     let Kind { ethertype, frames } = kind;
-    match kind_word(ethertype) {
+    match kind.name() {
         Some(word) => write!(out, " {frames} {word}"),
         None => write!(out, " {frames} of EtherType 0x{ethertype:04x}"),
     }

@@ -16,6 +16,9 @@ use traffic_survey::{Overlap, Question};
 /// How many columns a line of a question has at most.
 const COLUMNS: usize = 100;
 
+/// How many torn files of a recording are named at most.
+const MAX_TORN: usize = 16;
+
 /// The fault line of a command, without what begins each.
 fn push_fault(out: &mut String, alloc: Global, fault: &Fault) -> Result<(), AllocError> {
     let line = fault.to_string(alloc)?;
@@ -129,10 +132,30 @@ fn push_bad(out: &mut String, network: &str, tap: &TapAnswer<'_>) -> Result<(), 
     out.push_str("\n")
 }
 
+/// The faults of a recording's torn files.
+fn push_torn(out: &mut String, network: &str, tap: &TapAnswer<'_>) -> Result<(), AllocError> {
+    let mut told = 0usize;
+    for (number, file) in tap.tap.files.iter().enumerate() {
+        if let Some(how) = tap.tap.torn(number) {
+            told = told.saturating_add(1);
+            if told <= MAX_TORN {
+                let (path, how) = (Shown(&file.path), how.words());
+                writeln!(out, "fault: of network {network} {path} {how}")?;
+            }
+        }
+    }
+    let more = told.saturating_sub(MAX_TORN);
+    if more > 0 {
+        writeln!(out, "fault: of network {network} {more} more files end so")?;
+    }
+    Ok(())
+}
+
 fn push_taps(out: &mut String, alloc: Global, answer: &Answer<'_>) -> Result<(), AllocError> {
     for (network, tap) in [("A", answer.a), ("B", answer.b)] {
         if let Some(tap) = tap {
             push_tap(out, network, &tap)?;
+            push_torn(out, network, &tap)?;
             push_bad(out, network, &tap)?;
         }
     }

@@ -30,9 +30,15 @@ pub fn ends_bad(tap: Option<TapAnswer<'_>>) -> bool {
     }
 }
 
+/// How many files of a recording are torn.
+fn torn(tap: Option<TapAnswer<'_>>) -> usize {
+    tap.map_or(0, |tap| tap.tap.count_torn())
+}
+
 /// The verdict of all that was found.
 pub fn verdict_of(answer: &Answer<'_>) -> Verdict {
-    let mut faults = answer.faults.len();
+    let torn = torn(answer.a).saturating_add(torn(answer.b));
+    let mut faults = answer.faults.len().saturating_add(torn);
     for filter in answer.filters {
         if filter.loaded.is_err() {
             faults = faults.saturating_add(1);

@@ -89,7 +89,7 @@ decimal_in places text =
     else sum_in places (length (after_first is_point text)) (digits_in (before_first is_point text)) (digits_in (after_first is_point text)))
     else option_map (λ n. n * 10 ^ places) (digits_in text)
 
--- what stands before the first such letter, if this stands after it
+-- the text before the first such letter, if this stands after it
 abbrev pub number_before : (ℕ → Bool) → Text → Text → Option Text
 number_before letter rest text = if has letter text && bytes_eq (after_first letter text) rest then Some (before_first letter text) else None
 

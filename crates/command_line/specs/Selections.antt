@@ -64,7 +64,7 @@ abbrev pub first_or_fault : Option MomentText → Result (Option MomentText) Fau
 first_or_fault (Some moment) = Ok (Some moment)
 first_or_fault None = Err (fault.Selection options.From 0)
 
--- what the text of `--from` says, if it is given
+-- the moment of the text of `--from`, if it is given
 abbrev pub first_in : Option (List ℕ) → Result (Option MomentText) Fault
 first_in None = Ok None
 first_in (Some text) = first_or_fault (moment_in text)
@@ -77,7 +77,7 @@ abbrev pub span_or_fault : Option ℕ → Result Last Fault
 span_or_fault (Some length) = Ok (last.After length)
 span_or_fault None = Err (fault.Selection options.Span 0)
 
--- what the text of `--to` says, or where there is none that of `--span`
+-- the end by the text of `--to`, or where there is none by that of `--span`
 abbrev pub last_in : Option (List ℕ) → Option (List ℕ) → Result Last Fault
 last_in (Some text) span = to_or_fault (moment_in text)
 last_in None (Some text) = span_or_fault (span_in text)

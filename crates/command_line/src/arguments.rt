@@ -141,6 +141,8 @@ pub struct CutArguments<'a> {
     pub around: u16,
     /// Are the ledger's lines printed in place of packets?
     pub ledger_only: bool,
+    /// Does a recording go on with its next file behind one that ends within a packet, or is damaged?
+    pub resumes: bool,
     /// Are the packets written as a pcapng file, with their verdicts as comments?
     pub pcapng: bool,
     /// Where packets or lines are written.
@@ -154,6 +156,8 @@ pub struct LinksArguments<'a> {
     pub a: Option<&'a str>,
     /// The recording of network B.
     pub b: Option<&'a str>,
+    /// Does a recording go on with its next file behind one that ends within a packet, or is damaged?
+    pub resumes: bool,
     /// The text of the constant field that the links' frames have, a number of 32 bits. Without it the
     /// draft has the most common one.
     pub constant: Option<&'a str>,
@@ -182,6 +186,8 @@ pub struct ReportArguments<'a> {
     pub ledger: &'a str,
     /// The manifest of the ledger's run, if it is known.
     pub manifest: Option<&'a str>,
+    /// The kinds of other traffic that the networks are to have.
+    pub expected: Option<&'a str>,
     /// The ledger of an earlier flight that the ledger is compared with.
     pub baseline: Option<&'a str>,
     /// The table of that flight, where it was another one.
@@ -220,6 +226,8 @@ pub struct CheckArguments<'a> {
     pub expected: Option<&'a str>,
     /// Are the recordings read to their ends?
     pub whole: bool,
+    /// Does a recording go on with its next file behind one that ends within a packet, or is damaged?
+    pub resumes: bool,
     /// Is the answer written as JSON in place of text?
     pub json: bool,
 }
@@ -252,6 +260,8 @@ pub struct TransitArguments<'a> {
     pub grace: u32,
     /// How late a timestamp may be, in place of what the table says.
     pub late: Option<Lateness>,
+    /// Does a recording go on with its next file behind one that ends within a packet, or is damaged?
+    pub resumes: bool,
     /// The ledger of transits that is written, if one is.
     pub ledger: Option<&'a str>,
     /// Is the answer written as JSON in place of text?
@@ -279,6 +289,8 @@ pub struct TransitCutArguments<'a> {
     pub to: Option<&'a str>,
     /// How long after the first moment the last one is, in place of that.
     pub span: Option<&'a str>,
+    /// Does a recording go on with its next file behind one that ends within a packet, or is damaged?
+    pub resumes: bool,
     /// Are the packets written as a pcapng file, with their outcomes as comments?
     pub pcapng: bool,
     /// Where packets are written.
@@ -402,6 +414,7 @@ fn cut_options<'a>(given: &ArgMatches<'a>) -> Result<CutArguments<'a>, Misuse> {
         filters: given.get_str("filters"),
         around: given.get_one("around").ok_or(Misuse::Incomplete)?,
         ledger_only: flag(given, "ledger-only")?,
+        resumes: flag(given, "resume-after-cut")?,
         pcapng: flag(given, "pcapng")?,
         output: needed(given, "output")?,
     })
@@ -432,6 +445,7 @@ fn transit_cut_arguments<'a>(given: &ArgMatches<'a>) -> Result<TransitCutArgumen
         from: cut.from,
         to: cut.to,
         span: cut.span,
+        resumes: cut.resumes,
         pcapng: cut.pcapng,
         output: cut.output,
     })
@@ -479,6 +493,7 @@ fn links_arguments<'a>(given: &ArgMatches<'a>) -> Result<LinksArguments<'a>, Mis
     let links = LinksArguments {
         a: given.get_str("a"),
         b: given.get_str("b"),
+        resumes: flag(given, "resume-after-cut")?,
         constant: given.get_str("constant"),
         icd: given.get_str("icd"),
         columns: given_heads(given)?,
@@ -508,6 +523,7 @@ fn report_arguments<'a>(given: &ArgMatches<'a>) -> Result<ReportArguments<'a>, M
         config: needed(given, "config")?,
         ledger: needed(given, "ledger")?,
         manifest: given.get_str("manifest"),
+        expected: expected(given)?,
         baseline: given.get_str("baseline"),
         baseline_config: given.get_str("baseline-config"),
         transit: given.get_str("transit"),
@@ -525,6 +541,9 @@ fn report_arguments<'a>(given: &ArgMatches<'a>) -> Result<ReportArguments<'a>, M
     if report.baseline_config.is_some() && report.baseline.is_none() {
         return Err(Misuse::NoBaseline);
     }
+    if report.expected.is_some() && report.manifest.is_none() {
+        return Err(Misuse::NoKinds);
+    }
     Ok(report)
 }
 
@@ -536,19 +555,24 @@ fn check_network(network: Option<&str>) -> Result<(), Misuse> {
     }
 }
 
+/// The kinds of other traffic that are expected, if some are.
+fn expected<'a>(given: &ArgMatches<'a>) -> Result<Option<&'a str>, Misuse> {
+    match given.get_str("expected") {
+        Some(text) if !are_kinds(text) => Err(Misuse::NoKind),
+        kinds => Ok(kinds),
+    }
+}
+
 /// The options of `check`.
 fn check_arguments<'a>(given: &ArgMatches<'a>) -> Result<CheckArguments<'a>, Misuse> {
-    let expected = given.get_str("expected");
-    if expected.is_some_and(|text| !are_kinds(text)) {
-        return Err(Misuse::NoKind);
-    }
     Ok(CheckArguments {
         config: needed(given, "config")?,
         filter: given.get_str("filter"),
         a: given.get_str("a"),
         b: given.get_str("b"),
-        expected,
+        expected: expected(given)?,
         whole: flag(given, "whole")?,
+        resumes: flag(given, "resume-after-cut")?,
         json: flag(given, "json")?,
     })
 }
@@ -594,6 +618,7 @@ fn transit_arguments<'a>(given: &ArgMatches<'a>) -> Result<TransitArguments<'a>,
         by_frames: is_by_frames(given)?,
         grace: grace(given)?,
         late: lateness(given)?,
+        resumes: flag(given, "resume-after-cut")?,
         ledger: given.get_str("ledger"),
         json: flag(given, "json")?,
     };

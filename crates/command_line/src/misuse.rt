@@ -37,6 +37,8 @@ pub enum Misuse {
     NoPolicing,
     /// The table of a baseline is given, and no baseline.
     NoBaseline,
+    /// Kinds of other traffic are expected of a report, and no manifest is given, which has them.
+    NoKinds,
     /// A run over two recordings, whose frames it puts in order, is to take timestamps in any order.
     Unordered,
     /// A cut by a ledger of transits is given what a ledger of `watch` has.
@@ -69,6 +71,7 @@ impl Misuse {
             | Misuse::Uncaptured
             | Misuse::NoManifest
             | Misuse::NoBaseline
+            | Misuse::NoKinds
             | Misuse::Incomplete => ErrorKind::MissingRequiredArgument,
         }
     }
@@ -109,6 +112,10 @@ impl Misuse {
             Misuse::NoBaseline => {
                 "--baseline-config is the table of a baseline, and none is given\n  Name its ledger by \
                  --baseline"
+            }
+            Misuse::NoKinds => {
+                "--expected names kinds of traffic, and a ledger has none\n  Name the run's manifest, which \
+                 has them, by --manifest"
             }
             Misuse::NoPackets => {
                 "--pcapng says how packets are written, and --ledger-only leaves them out\n  Give one of \

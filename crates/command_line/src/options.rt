@@ -115,6 +115,19 @@ const VERBOSE: Argument = Argument(
     "Tell standard error, whatever it is, what a terminal is told but progress",
 );
 
+/// A recording of several files goes on behind a torn one.
+const RESUMES: Argument = Argument(
+    "resume-after-cut",
+    Form::Flag,
+    "Go on with the next file of a recording behind one that is cut or damaged",
+);
+
+const EXPECTED: Argument = Argument(
+    "expected",
+    Form::Free("LIST"),
+    "Kinds of other traffic that the networks are to have, as 'ptp,lldp,0x88cc'",
+);
+
 /// How late a timestamp may be, where any order will do.
 const LATE: Argument = Argument(
     "late-us",
@@ -183,13 +196,9 @@ const WATCH: [Argument; 15] = [
     Argument(
         "strict",
         Form::Flag,
-        "End with status 3 where a recording ends early, not with 0",
+        "End with status 3 where a recording ends early or a file is torn, not with 0",
     ),
-    Argument(
-        "resume-after-cut",
-        Form::Flag,
-        "Go on with the next file of a recording behind one that is cut or damaged",
-    ),
+    RESUMES,
     COMMENTED,
     VERBOSE,
 ];
@@ -206,7 +215,7 @@ const DEBUG: [Argument; 5] = [
     VERBOSE,
 ];
 
-const CUT: [Argument; 18] = [
+const CUT: [Argument; 19] = [
     Argument(
         "ledger",
         Form::Needed("FILE"),
@@ -262,6 +271,7 @@ const CUT: [Argument; 18] = [
         Form::Flag,
         "Print the ledger's lines of the selected frames in place of packets",
     ),
+    RESUMES,
     COMMENTED,
     Argument(
         "output",
@@ -271,7 +281,7 @@ const CUT: [Argument; 18] = [
     VERBOSE,
 ];
 
-const LINKS: [Argument; 6] = [
+const LINKS: [Argument; 7] = [
     A,
     B,
     Argument(
@@ -289,10 +299,11 @@ const LINKS: [Argument; 6] = [
         Form::Repeated("KEY=HEAD"),
         "The head of a key's column in the ICD, as id='VL-Nr'; may be given again",
     ),
+    RESUMES,
     VERBOSE,
 ];
 
-const REPORT: [Argument; 16] = [
+const REPORT: [Argument; 17] = [
     CONFIG,
     Argument(
         "ledger",
@@ -304,6 +315,7 @@ const REPORT: [Argument; 16] = [
         FILE,
         "The manifest of the run, as `afdxmon watch` writes it",
     ),
+    EXPECTED,
     Argument(
         "baseline",
         FILE,
@@ -355,21 +367,18 @@ const REPORT: [Argument; 16] = [
     VERBOSE,
 ];
 
-const CHECK: [Argument; 8] = [
+const CHECK: [Argument; 9] = [
     CONFIG,
     FILTER,
     A,
     B,
-    Argument(
-        "expected",
-        Form::Free("LIST"),
-        "Kinds of other traffic that the networks are to have, as 'ptp,lldp,0x88cc'",
-    ),
+    EXPECTED,
     Argument(
         "whole",
         Form::Flag,
         "Read the recordings to their ends, not their first 1000000 frames",
     ),
+    RESUMES,
     Argument(
         "json",
         Form::Flag,
@@ -378,7 +387,7 @@ const CHECK: [Argument; 8] = [
     VERBOSE,
 ];
 
-const TRANSIT: [Argument; 15] = [
+const TRANSIT: [Argument; 16] = [
     CONFIG,
     Argument(
         "before",
@@ -435,6 +444,7 @@ const TRANSIT: [Argument; 15] = [
         Form::Free("N"),
         "Take timestamps out of order by N microseconds, in place of the table's late_us",
     ),
+    RESUMES,
     Argument("ledger", FILE, "The ledger of transits to write"),
     Argument(
         "json",

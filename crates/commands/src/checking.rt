@@ -34,7 +34,7 @@ struct Passed<'a> {
 fn tap_answer<'a>(
     rt: &HostRuntime,
     given: &CheckArguments<'_>,
-    (network, tap): (Network, &Tap),
+    (network, tap): (Network, &'a Tap),
     name: &'a str,
     source: TapFiles<'_>,
     recorded: Recorded,
@@ -46,6 +46,7 @@ fn tap_answer<'a>(
     let _ = tell_gaps(rt, network, tap, &end);
     Some(TapAnswer {
         name,
+        tap,
         format: end.format,
         recorded,
         percent: percent_of(tap, rt, &end.sums),
@@ -89,7 +90,7 @@ fn name_of(rt: &HostRuntime, tap: &Tap) -> Result<String, Fault> {
 fn read_recordings<'a>(
     rt: &HostRuntime,
     given: &CheckArguments<'_>,
-    (taps, names): (&Taps, [&'a str; 2]),
+    (taps, names): (&'a Taps, [&'a str; 2]),
     config: Option<&Config>,
     inputs: &mut Inputs<'_>,
 ) -> Result<Passed<'a>, Outcome> {

@@ -3,20 +3,22 @@ use crate::disputed::KnownTable;
 use crate::files::refuse_shared;
 use crate::inputs::{is_at_terminal, shown_path, text_of};
 use crate::outputs::create;
+use afdx_frame::VlId;
 use command_line::{
     Contradiction, CutArguments, Exit, FailOn, Fault, FileOption, Found, Invocation, ManifestFault,
-    ReportArguments, ReportFault, selection_of,
+    ReportArguments, ReportFault, kinds_in, selection_of,
 };
 use findings::Level;
 use ledger_report::{
-    BINS, Difference, Disputed, NoReport, Part, Report, WrongLine, read_part, read_report,
+    BINS, Crossing, Difference, Disputed, Hole, NoReport, Part, PerNetwork, RecorderFacts, Report,
+    WrongLine, read_part, read_report,
 };
 use ledger_text::LineFault;
 use pcap_io::ReadSource;
 use report_page::{Shown, csv_of, failing, has_sizes, json_of, page_of, summary_of};
 use run_inputs::read_config;
-use run_manifest::{Digesting, Manifest, Sum, read_manifest, sum_of};
-use std::alloc::AllocError;
+use run_manifest::{Digesting, Manifest, RecordingRecord, Sum, read_manifest, sum_of};
+use std::alloc::{AllocError, Global};
 use std::io;
 use std::io::{Read, Write};
 use tap_inputs::{Cause, Detail, Input, Noting, Outcome, Taps, open};
@@ -134,6 +136,7 @@ fn part_of(
         filters: None,
         around: 0,
         ledger_only: true,
+        resumes: false,
         pcapng: false,
         output: given.output,
     };
@@ -245,7 +248,12 @@ fn baseline_of(
     let Some(mut ledger) = ledger else {
         return Ok(None);
     };
-    match read_report(rt.alloc(), table.config, ReadSource::new(&mut ledger), None) {
+    let recorders = PerNetwork {
+        a: RecorderFacts::none(rt.alloc()),
+        b: RecorderFacts::none(rt.alloc()),
+    };
+    let source = ReadSource::new(&mut ledger);
+    match read_report(rt.alloc(), table.config, source, None, recorders) {
         Ok(report) => {
             refuse_unheld(rt, &report, table, true)?;
             Ok(Some(report))
@@ -377,12 +385,67 @@ fn write_report(
     }
 }
 
+/// The facts of a manifest on a recording beside its ledger. Foreign frames of some EtherTypes are expected.
+fn recorder_of(
+    alloc: Global,
+    recording: Option<&RecordingRecord>,
+    expected: &[u16],
+) -> Result<RecorderFacts, AllocError> {
+    let mut facts = RecorderFacts::none(alloc);
+    let Some(recording) = recording else {
+        return Ok(facts);
+    };
+    facts.dropped = recording.dropped.unwrap_or(0);
+    facts.tagged = recording.tagged.unwrap_or(0);
+    for kind in recording.foreign.as_deref().unwrap_or(&[]) {
+        if kind
+            .number()
+            .is_some_and(|number| expected.contains(&number))
+        {
+            facts.expected = facts.expected.saturating_add(kind.frames);
+        }
+    }
+    for torn in recording.torn.as_deref().unwrap_or(&[]) {
+        if let Some((from, to)) = torn.hole() {
+            facts.holes.push(Hole { from, to })?;
+        }
+    }
+    for crossed in recording.crossed.as_deref().unwrap_or(&[]) {
+        if let Some((from, to)) = crossed.span() {
+            facts.crossed.push(Crossing {
+                link: VlId(crossed.link),
+                frames: crossed.frames,
+                from,
+                to,
+            })?;
+        }
+    }
+    Ok(facts)
+}
+
+/// The same of both recordings.
+fn recorders_of(
+    alloc: Global,
+    given: &ReportArguments<'_>,
+    manifest: Option<&Manifest>,
+) -> Result<PerNetwork<RecorderFacts>, AllocError> {
+    let expected = kinds_in(alloc, given.expected.unwrap_or(""))?;
+    let (a, b) = match manifest {
+        Some(manifest) => (manifest.inputs.a.as_ref(), manifest.inputs.b.as_ref()),
+        None => (None, None),
+    };
+    Ok(PerNetwork {
+        a: recorder_of(alloc, a, &expected)?,
+        b: recorder_of(alloc, b, &expected)?,
+    })
+}
+
 /// Reads a ledger: all of it, or a part.
 fn read_ledger(
     rt: &HostRuntime,
     ledger: &mut Digesting<OpenLedger>,
     table: KnownTable<'_>,
-    part: Option<Part>,
+    (part, recorders): (Option<Part>, PerNetwork<RecorderFacts>),
     beginning: Beginning,
 ) -> Result<Report, Outcome> {
     let (alloc, config) = (rt.alloc(), table.config);
@@ -390,9 +453,9 @@ fn read_ledger(
     let before = beginning.head().chain(beginning.byte());
     let source = ReadSource::new(before.chain(&mut *ledger));
     let read = if beginning.is_part() {
-        read_part(alloc, config, source, part).map_err(|fault| (fault, None))
+        read_part(alloc, config, source, part, recorders).map_err(|fault| (fault, None))
     } else {
-        let read = read_report(alloc, config, source, part);
+        let read = read_report(alloc, config, source, part, recorders);
         read.map_err(|refused| (refused.fault, refused.disputed))
     };
     match read {
@@ -483,7 +546,10 @@ pub fn report(
     let transits = open_transits(rt, given)?;
     refuse_shared(rt, Invocation::Report(*given), taps)?;
     let beginning = Beginning::read(&mut ledger.inner);
-    let report = read_ledger(rt, &mut ledger, table, part, beginning)?;
+    let Ok(recorders) = recorders_of(rt.alloc(), given, manifest) else {
+        return Err(Outcome::from(NO_REPORT));
+    };
+    let report = read_ledger(rt, &mut ledger, table, (part, recorders), beginning)?;
     refuse_other(rt, manifest, ledger.tally.end())?;
     let baseline = match &earlier {
         Some(earlier) => {

@@ -52,6 +52,7 @@ fn transit_selection(
         filters: None,
         around: 0,
         ledger_only: false,
+        resumes: false,
         pcapng: false,
         output: given.output,
     };

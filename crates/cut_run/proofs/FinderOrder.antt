@@ -19,7 +19,7 @@ both Equal Less p q a b = (omega arith, λ e. b)
 both Equal Equal p q a b = same_place p q a b
 both Equal Greater p q a b = (omega arith, λ e. b)
 
--- what the comparison says
+-- the comparison's answer
 pub compared : (p q : SearchPlace) → MatchOrdering (place_cmp p q) (IsBelow p q) (p ≡ q) (IsBelow q p)
 compared p q =
     both (nat_cmp p.stamp.0 q.stamp.0) (nat_cmp p.number q.number) p q
@@ -83,7 +83,7 @@ from_means Less p q r h a b = absurd (a h)
 from_means Equal p q r h a b = λ c. b (subst (λ (x : SearchPlace). IsBelow q x) (sym h) c)
 from_means Greater p q r h a b = λ c. b (below_trans q r p c h)
 
--- what isn't below a place that isn't below r isn't below r either
+-- a place isn't below r that isn't below another which isn't below r
 pub not_below_from : (p q r : SearchPlace) → (IsBelow p r → ⊥) → (IsBelow q p → ⊥) → IsBelow q r → ⊥
 not_below_from p q r = from_means (place_cmp p r) p q r (compared p r)
 

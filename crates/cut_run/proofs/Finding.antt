@@ -56,7 +56,7 @@ pub numbered : (o : Opening) (fs : List Frame) (q : Position) (left : Option (Li
 numbered o fs q left h n f e =
     (let is = reads_numbered (start_at o.network h.layout most_frames any_late) q h.opened left fs h.reads n f e in omega arith)
 
--- what a call of the reader says
+-- all that a call of the reader says
 pub record Called (old new : Reading) (unread : List ℕ) (r : Result Item ReadFault) : Type 0 where
   pub advances : Advances (λ (i : Item). i) old new r
   pub unfinished : old.position.stage ≡ Going → r ≡ Err reads.Device → LacksBytes old.position old.remaining new.remaining unread

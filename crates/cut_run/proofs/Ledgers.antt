@@ -142,7 +142,7 @@ ends_incomplete l s t w format choice before rs fs taken fa fb old new taking st
     ends_with l s t w format choice before rs fs taken fa fb old new taking (ending.Incomplete stop)
     (found_incomplete l before.ledger.remaining before.ledger.failures rs old new stop h.read is) is.3.2 h
 
--- ---- what was read ahead
+-- ---- all that was read ahead
 
 ahead : (unread : List ℕ) (rest : Option (List ℕ)) → Consumes (prepend_known unread rest) rest unread
 ahead unread None = tt
@@ -159,7 +159,7 @@ stops_after l old new v is few = (lent_of new, left_of l new, found_line l old n
 
 -- ---- a line that stops the cut
 
--- what a line's fault says of the ledger
+-- all that a line's fault says of the ledger
 pub line_fault : (skips : Option Network) (fault : CutFault) (before : CutDevices) (rs : List ReadLine) (stage : LedgerStage) (left rest : Option (List ℕ)) (fa fb : List Frame) (n : ℕ)
     (v : FrameLine) → n ≡ length rs + 1 → ReadsNext skips stage left rest v → IsTakeFault fault n before.a before.b (read_lines skips (frame_lines rs)) v fa fb
     → IsLineFault skips fault before rs stage left rest fa fb
@@ -257,7 +257,7 @@ bad_next l bytes failures rs old new text n fault h count is few = (
   ),
 )
 
--- what was read ahead is a part of a line, before what the source still gives
+-- the bytes read ahead are a part of a line, before those that the source still gives
 pub part_ahead : (left rest : Option (List ℕ)) (unread : List ℕ) → Keeps left (prepend_known unread rest) → Consumes left rest unread
 part_ahead None rest unread is = tt
 part_ahead (Some xs) None unread is = is

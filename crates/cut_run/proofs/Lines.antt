@@ -30,7 +30,7 @@ last_more vs v = last_more_from None vs v
 
 -- ---- the frames of lines
 
--- what stands in the first list stands in the second at the same place
+-- each element of the first list stands in the second at the same place
 abbrev pub Widens : List Frame → List Frame → Type 0
 Widens xs ys = (n : ℕ) (f : Frame) → slice_get xs n ≡ Some f → slice_get ys n ≡ Some f
 
@@ -139,7 +139,7 @@ pub passes_more : {X : Type 0} (choice : Choice) (vs : List FrameLine) (fs taken
     → TakesOf choice vs fs taken → (Chooses choice vs v → ⊥) → TakesOf choice (vs ++ v ∷ []) (fs ++ f ∷ []) taken
 passes_more choice vs fs taken v f takes not = passes_more_from choice [] vs fs taken v f takes not
 
--- ---- what is written
+-- ---- all that is written
 
 pub capture_more : (format : Format) (taken : List (FrameLine × Frame)) (v : FrameLine) (f : Frame)
     → cut_capture format (taken ++ (v, f) ∷ []) ≡ cut_capture format taken ++ line_packet format v f

@@ -63,7 +63,7 @@ above (Some p) (Some k) v within later =
           omega (arith, number, more)),
     )
 
--- what was named stays within the lines
+-- a floor that was named stays within the lines
 pub within_more : (network : Network) (floor : Option SearchPlace) (last : Option Key) (v : FrameLine) → FloorWithin network floor last → ComesLater last v
     → FloorWithin network floor (Some (key_of_line v))
 within_more network None last v within later = tt

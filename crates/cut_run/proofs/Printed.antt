@@ -29,7 +29,7 @@ use Rattle.cut_run.proofs.Naming.{part_read}
 
 -- ---- a line and its newline
 
--- what is written after other bytes
+-- all that is written after other bytes
 pub written_after : {T E : Type 0} (r : Result T E) (old mid new : Option (List ℕ)) (x y z : ℕ) (text more : List ℕ) → Appends old mid text → y ≡ x
     → Writes r mid new y z more → Writes r old new x z (text ++ more)
 written_after (Ok t) old mid new x y z text more first same w =

@@ -128,7 +128,7 @@ ends_printing l s t w choice before rs printed old new printing e at same h = λ
 
 -- ---- a line that stops the run
 
--- what a fault at a line says of the recordings and the ledger
+-- all that a fault at a line says of the recordings and the ledger
 record Stopped (skips : Option Network) (fault : CutFault) (before : LineDevices) (was now : Option Sources) (rs : List ReadLine) (stage : LedgerStage) (left rest : Option (List ℕ)) (x y : ℕ) : Type 0 where
   checked : AreCheckedUpTo skips fault before was now rs stage left rest
   recordings : SourcesFailOnly fault was now

@@ -73,7 +73,7 @@ module _ (frames : List Frame) (place : SearchPlace) (f : Frame) (old new : BTre
 
 module _ (frames : List Frame) (floor : Option SearchPlace) (place : SearchPlace) (old mid : BTreeMap SearchPlace Frame) (above : IsAbove floor place)
     (kept : AreKept frames floor old) (forgets : Forgets place old mid) where
-  -- what stands of those that are kept, once those below the place are dropped
+  -- all that stands of those that are kept, once those below the place are dropped
   pub stays : (q : SearchPlace) (f : Frame) → passed_at mid q ≡ Some f → (IsBelow q place → ⊥) × (passed_at old q ≡ Some f)
   stays q f e = (λ b. (let none = forgets.0 q b in cc), sym (forgets.1 q (λ b. (let none = forgets.0 q b in cc))) ∙ e)
 

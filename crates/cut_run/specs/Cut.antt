@@ -51,7 +51,7 @@ abbrev pub stop_of : CutEnding → Option LedgerStop
 stop_of ending.Complete = None
 stop_of (ending.Incomplete stop) = Some stop
 
--- ---- what was cut
+-- ---- all that was cut
 
 -- These lines of the ledger were read, and of both recordings these frames, among which each line of a frame finds its own, unless it is passed
 -- over: they come later one by one, and the frames stand as they were recorded.
@@ -201,7 +201,7 @@ abbrev pub AbortsCut : Format → Choice → CutFault → CutDevices → CutDevi
 AbortsCut format choice fault before after =
     FailsOnly fault before after × (StopsAtOpening format fault before after ⊎ StopsAtLine format choice fault before after)
 
--- what a cut came to, and what it leaves
+-- the outcome of a cut, and what it leaves
 abbrev pub IsCutRun : Format → Choice → Result CutEnding CutFault → CutDevices → CutDevices → Type 0
 IsCutRun format choice (Ok e) before after = IsCut format choice e before after
 IsCutRun format choice (Err fault) before after = AbortsCut format choice fault before after

@@ -38,10 +38,10 @@ abbrev pub opening_of : {S : Type 0} → SourceMembers S → Network → S → O
 opening_of s network source =
     record { network = network; remaining = s.remaining source; failures = s.failures source; told = s.told source }
 
--- what stands of a finder
+-- the state of a finder
 pub record Finding : Type 0 where
   pub reading : Reading
-  -- what was read ahead
+  -- all that was read ahead
   pub unread : List ℕ
   -- the frames that were passed and are kept
   pub passed : BTreeMap SearchPlace Frame
@@ -58,7 +58,7 @@ finding_of s finder = record {
   failed = finder.failed;
 }
 
--- what it reads from
+-- the source that it reads from
 abbrev pub finder_source : {S : Type 0} → FrameFinder S → S
 finder_source finder = source_of finder.reader
 
@@ -93,7 +93,7 @@ pub record HasRead (o : Opening) (frames : List Frame) (floor : Option SearchPla
   pub counted : now.next ≡ length frames
   pub going : now.failed ≡ false
 
--- ---- what a call says
+-- ---- all that a call says
 
 -- The frame of this place was found. No more was read than up to it.
 pub record Finds (o : Opening) (frames : List Frame) (place : SearchPlace) (f : Frame) (now : Finding) : Type 0 where

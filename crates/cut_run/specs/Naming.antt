@@ -78,7 +78,7 @@ abbrev pub view_of : Network → SourceView → SourceView → SourceView
 view_of A a b = a
 view_of B a b = b
 
--- what a fault says of a line, the n-th of the ledger, whose frame wasn't found
+-- all that a fault says of a line, the n-th of the ledger, whose frame wasn't found
 abbrev pub IsNameFault : CutFault → ℕ → SourceView → SourceView → List FrameLine → FrameLine → List Frame → List Frame → Type 0
 IsNameFault (faults.Order m) n a b vs v frames_a frames_b = (m ≡ n) × (ComesLater (last_key vs) v → ⊥)
 IsNameFault (faults.Absent m) n a b vs v frames_a frames_b = (m ≡ n) × LacksFrame (view_of v.network a b) (side v.network frames_a frames_b) v

@@ -35,7 +35,7 @@ pub record NotesLines (selection : Selection) (count : ℕ) (before after : Sour
   pub noted : HasNoted selection (around_lines count rs) neighbours
   pub no_failure : after.failures ≡ before.failures
 
--- what the fault says of the line after these; there may be no memory before the first line, or at the line of a frame
+-- all that the fault says of the line after these; there may be no memory before the first line, or at the line of a frame
 abbrev pub IsNoteFault : CutFault → List ReadLine → LedgerStage → Option (List ℕ) → Option (List ℕ) → Type 0
 IsNoteFault (faults.Ledger n fault) rs stage left rest = IsBadNext n fault rs stage left rest
 IsNoteFault (faults.Read source.Ledger) rs stage left rest = FailsInLine left rest

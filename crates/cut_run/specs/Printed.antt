@@ -76,7 +76,7 @@ abbrev pub line_devices_at : {L S T W : Type 0} → SourceMembers L → SourceMe
 line_devices_at l s t w ledger recordings output =
     record { ledger = source_at l ledger; recordings = sources_at s t recordings; output = sink_at w output }
 
--- those of a cut, with these recordings
+-- the devices of a cut, with these recordings
 abbrev pub cut_devices : LineDevices → Sources → CutDevices
 cut_devices devices sources = record { ledger = devices.ledger; a = sources.a; b = sources.b; output = devices.output }
 
@@ -120,7 +120,7 @@ StopsBefore fault before after None None = (fault ≡ faults.Memory) × (after �
 StopsBefore fault before after (Some was) (Some now) = (fault ≢ faults.Write) × IsUnopened fault (cut_devices before was) (cut_devices after now)
 StopsBefore fault before after was now = ⊥
 
--- what a fault says of the line after these, if there are no recordings
+-- all that a fault says of the line after these, if there are no recordings
 abbrev pub IsLoneFault : CutFault → List ReadLine → LedgerStage → Option (List ℕ) → Option (List ℕ) → Type 0
 IsLoneFault (faults.Ledger n fault) rs stage left rest = IsBadNext n fault rs stage left rest
 IsLoneFault (faults.Read source.Ledger) rs stage left rest = FailsInLine left rest
@@ -166,7 +166,7 @@ pub record LinesFailOnly (fault : CutFault) (before after : LineDevices) : Type 
   pub recordings : SourcesFailOnly fault before.recordings after.recordings
   pub output : FailsWhere (names fault OutputSink) before.output.failures after.output.failures
 
--- what a run that prints lines came to, and what it leaves
+-- the outcome of a run that prints lines, and what it leaves
 abbrev pub IsLinesRun : Choice → Result CutEnding CutFault → LineDevices → LineDevices → Type 0
 IsLinesRun choice (Ok e) before after = ArePrinted choice e before after
 IsLinesRun choice (Err fault) before after =

@@ -85,7 +85,7 @@ at_quit start now next lines left rest line printed text on e answers quits =
     let all = on (line ∷ rest) [] text next (e ∙ sym (append-nil (line ∷ rest))) (text, [], next, answers, sym (append-nil text), tail) in
     subst (λ (ls : List (List ℕ)). AnswersAll start ls (printed ++ text) next) (sym (all.1 ∙ append-nil all.0)) all.2
 
--- ---- what the sink took
+-- ---- all that the sink took
 
 takes_more : (sink mid sink' : SinkView) (printed text : List ℕ) → Takes sink mid printed → Takes mid sink' text → Takes sink sink' (printed ++ text)
 takes_more sink mid sink' printed text first next =

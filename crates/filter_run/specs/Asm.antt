@@ -14,7 +14,7 @@ use Rattle.command_line.specs.declared.fault.Fault.{Fault}
 use Rattle.command_line.specs.declared.fault.Fault.TheVariants as fault
 use Rattle.command_line.specs.declared.fault.FileOption.TheVariants as file
 
--- what is printed: the numeric form and a newline
+-- the printed text: the numeric form and a newline
 abbrev pub printed : List Packed → List ℕ
 printed p = numeric_text p ++ codes "\n"
 
@@ -22,14 +22,14 @@ printed p = numeric_text p ++ codes "\n"
 abbrev pub IsAssembledAs : List ℕ → List ℕ → Type 0
 IsAssembledAs text numeric = (p : List Packed) × IsSourceOf text p × (numeric ≡ printed p)
 
--- what it means that the text wasn't read
+-- the fault of a text that wasn't read
 abbrev pub text_fault : TextRefusal → Fault
 text_fault refusals.Device = fault.File file.Standard
 text_fault refusals.TooLong = fault.File file.Standard
 text_fault refusals.NotUtf8 = fault.File file.Standard
 text_fault refusals.Memory = fault.Asm asm.Memory
 
--- what became of printing a text's program, by what the sink took and how often it had failed
+-- the outcome of printing a text's program, by what the sink took and how often it had failed
 abbrev pub Prints : List ℕ → Option (List ℕ) → Option (List ℕ) → ℕ → ℕ → Result (Unit {0}) Fault → Type 0
 Prints text before after old new (Ok done) = (p : List Packed) × IsSourceOf text p × Appends before after (printed p) × (new ≡ old)
 Prints text before after old new (Err (fault.File file.Standard)) =
@@ -49,7 +49,7 @@ pub record IsRead (text : List ℕ) (outcome : Result (Unit {0}) Fault) (before 
   pub source : after.source.failures ≡ before.source.failures
   pub printed : Prints text before.sink.contents after.sink.contents before.sink.failures after.sink.failures outcome
 
--- what the command came to, and what it leaves, by the text that it read
+-- the outcome of the command, and what it leaves, by the text that it read
 abbrev pub IsAsmRun : Option (List ℕ) → Result (Unit {0}) Fault → Devices → Devices → Type 0
 IsAsmRun (Some text) outcome before after = IsRead text outcome before after
 IsAsmRun None outcome before after = (refusal : TextRefusal) × (outcome ≡ Err (text_fault refusal)) × IsUnread refusal before after

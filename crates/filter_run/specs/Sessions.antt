@@ -31,7 +31,7 @@ abbrev pub IsTextOf : Result Reply DebugFault → List ℕ → Type 0
 IsTextOf (Ok reply) text = (text ≡ reply_text reply) ⊎ (text ≡ fault_text debug.Memory)
 IsTextOf (Err f) text = text ≡ fault_text f
 
--- what an answer says
+-- the text of an answer
 abbrev pub text_of : Answer → List ℕ
 text_of (answer.Fixed text) = text.now
 text_of (answer.Rendered text) = string_bytes text
@@ -77,7 +77,7 @@ abbrev pub lines_left : Option (Bor (List ℕ)) → List (List ℕ)
 lines_left None = []
 lines_left (Some text) = lines_of text.now
 
--- what follows a line: nothing after one that ends the session
+-- all that follows a line: nothing after one that ends the session
 abbrev pub Continues : Bool → SessionState → SessionState → List ℕ → Type 0 → Type 0
 Continues true next after rest more = (rest ≡ []) × (after ≡ next)
 Continues false next after rest more = more
@@ -94,7 +94,7 @@ abbrev pub AnswersSome : SessionState → List (List ℕ) → List ℕ → Sessi
 AnswersSome before lines text after =
     (some : List (List ℕ)) × (others : List (List ℕ)) × (lines ≡ some ++ others) × AnswersAll before some text after
 
--- ---- what is printed
+-- ---- all that is printed
 
 -- the sink took these bytes
 abbrev pub Takes : SinkView → SinkView → List ℕ → Type 0
@@ -132,7 +132,7 @@ IsBegun p frames (Err f) sink sink' = ⊥
 
 -- ---- a whole session
 
--- what it means that the commands weren't read
+-- the fault of commands that weren't read
 abbrev pub commands_fault : TextRefusal → Fault
 commands_fault refusals.Device = fault.File file.Standard
 commands_fault refusals.TooLong = fault.File file.Standard
@@ -167,7 +167,7 @@ pub record StopsSession (p : List Packed) (frames : List Frame) (commands comman
   pub answers : AnswersSome (new_session p frames) (lines_of text) printed last
   pub taken : TakesPrefix sink sink' (frames_line (length frames) ++ printed)
 
--- what a session over commands came to, and what it leaves
+-- the outcome of a session over commands, and what it leaves
 abbrev pub IsSessionRun : List Packed → List Frame → Result (Unit {0}) Fault → SourceView → SourceView → SinkView → SinkView → Type 0
 IsSessionRun p frames (Ok done) commands commands' sink sink' = IsSession p frames commands commands' sink sink'
 IsSessionRun p frames (Err (fault.File file.Standard)) commands commands' sink sink' =

@@ -49,7 +49,7 @@ drew_all word views id v s is at full same through = record {
       no_numbers k (set views id spent) empty (omega (arith, total-set room_of views id v spent at, is.rooms)),
     )
 
--- what a closed desk leaves
+-- all that a closed desk leaves
 pub closes : (len id : ℕ) (v : SeatView) (s : SeatState) (words : List ℕ) (slots : List (Unit {0})) (next : ℕ)
     → Final (Seen (Keeps len) id v) words slots → get_elem? words 0 ≡ some next → len ≡ s.desk.len → v.room ≡ DESK_SEATS
     → v.numbers ≡ s.numbers → v.through ≡ s.through → DrewAll s (min next s.desk.len)

@@ -79,7 +79,7 @@ put_last n xs before after is rest =
     (IsPermutation-trans _ _ _ (IsPermutation-cons n _ _ rest)
     (IsPermutation-sym _ _ (IsPermutation-to_front (numbers_below n) n))))
 
--- what stands once below n, and no other, is the numbers below n
+-- a list with each number below n once, and no other, is the numbers below n
 pub each_once : (n : ℕ) (xs : List ℕ) → ((k : ℕ) → times k xs ≡ once_below n k) → IsPermutation xs (numbers_below n)
 each_once zero xs h =
     subst (λ ys. IsPermutation ys []) (sym (none_there xs (λ k. h k ∙ once_below-past 0 k (omega arith)))) (IsPermutation-refl [])

@@ -34,7 +34,7 @@ seats_set len word next views id w up seats is j u at =
     (at_set views id j w u at)
 
 module _ (len word : ℕ) (views : List SeatView) (is : AreClaims len word views) (id : ℕ) (v : SeatView) (at : get_elem? views id ≡ some v) where
-  -- what a seat drew is below the word
+  -- the numbers that a seat drew are below the word
   pub drawn_below : word < len → All (λ x. x < word) v.numbers
   drawn_below more = all_below word v.numbers (λ k past.
       omega (arith, term_le (numbers_in k) views id v at, is.once k, once_below-past (min word len) k (omega arith)))

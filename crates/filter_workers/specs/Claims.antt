@@ -44,7 +44,7 @@ pub record Keeps (len : ℕ) (s : State (Unit {0}) SeatView) : Type 0 where
   pub one_word : length s.words ≡ 1
   pub claims : AreClaims len (slice_index s.words 0) s.views
 
--- ---- what the steps do to a seat's view
+-- ---- all that the steps do to a seat's view
 
 abbrev pub seat_view : List ℕ → ℕ → Bool → ℕ → SeatView
 seat_view numbers room through len = record { numbers = numbers; room = room; through = through; len = len }

@@ -5,6 +5,8 @@ use crate::flight::Flight;
 use crate::kind::Kind;
 use crate::link::{Frame, LinkState};
 use crate::long::{Long, Time, ZERO};
+use crate::per_network::PerNetwork;
+use crate::recorder::RecorderFacts;
 use crate::signs::{Sign, Word};
 use crate::tell::findings_of;
 use afdx_frame::{Network, VL_ID_COUNT, VlId};
@@ -67,12 +69,16 @@ fn unnumbered(class: Class) -> Option<(Kind, Word)> {
 }
 
 impl Analysis {
-    /// Of no line, against a table.
+    /// Of no line, against a table. `recorders` says what the ledger doesn't tell.
     ///
     /// # Errors
     ///
     /// `AllocError` if there is no memory for some 3 KB for each link.
-    pub fn new(alloc: Global, config: &Config) -> Result<Analysis, AllocError> {
+    pub fn new(
+        alloc: Global,
+        config: &Config,
+        recorders: PerNetwork<RecorderFacts>,
+    ) -> Result<Analysis, AllocError> {
         let table = config.links();
         let mut links = Vec::with_capacity(alloc, table.len())?;
         let mut index = vec![in alloc; NO_LINK; VL_ID_COUNT]?;
@@ -82,7 +88,7 @@ impl Analysis {
                 *held = u16::try_from(place).unwrap_or(NO_LINK);
             }
         }
-        let flight = Flight::new(alloc, table)?;
+        let flight = Flight::new(alloc, table, recorders)?;
         Ok(Analysis {
             links,
             index,
@@ -94,8 +100,15 @@ impl Analysis {
 
     /// The time of a line since the first one.
     fn time(&mut self, stamp: u64) -> Time {
-        let start = self.start.unwrap_or(stamp);
-        self.start = Some(start);
+        let start = match self.start {
+            Some(start) => start,
+            None => {
+                self.start = Some(stamp);
+                self.flight.networks.a.recorder.count_from(stamp);
+                self.flight.networks.b.recorder.count_from(stamp);
+                stamp
+            }
+        };
         Long::of(stamp.saturating_sub(start))
     }
 

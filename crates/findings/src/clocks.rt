@@ -24,6 +24,9 @@ const POINTS: usize = 64;
 /// The least drift over a flight that is told.
 const LEAST_DRIFT: Long = Long(200_000);
 
+/// The least drift that is told, in parts of 10^9: one of 100 measures as some parts less.
+const LEAST_PARTS: Long = Long(95);
+
 /// A step of B's clock against A's.
 #[derive(Clone, Copy)]
 pub struct Step {
@@ -49,9 +52,9 @@ impl Block {
 
     /// Has it as many skews as it takes, or one of each of so many links, or enough after a second?
     fn is_whole(&self, links: usize, at: Time) -> bool {
-        let long = at - self.begins() >= SECOND;
         let count = self.skews.len();
-        self.skews.is_full() || count >= FEW_LINKS && (long || count >= links)
+        self.skews.is_full()
+            || count >= FEW_LINKS && (count >= links || at - self.begins() >= SECOND)
     }
 
     fn begins(&self) -> Time {
@@ -284,7 +287,7 @@ impl Clocks {
             (point.median - first.median - line).is_within(bound)
         };
         let parts = share(moved, SECOND, time);
-        let drifts = parts.abs() >= Long(100) && self.points.iter().all(is_on);
+        let drifts = parts.abs() >= LEAST_PARTS && self.points.iter().all(is_on);
         drifts.then_some(DriftFound {
             parts,
             moved,

@@ -6,6 +6,7 @@ use crate::kind::Kind;
 use crate::long::{Long, Time, ZERO};
 use crate::network::NetworkState;
 use crate::per_network::PerNetwork;
+use crate::recorder::RecorderFacts;
 use crate::signs::{Side, Sign, Word};
 use crate::skews::{EndedRun, Move, SkewState};
 use afdx_frame::Network;
@@ -57,7 +58,11 @@ pub struct Pair {
 
 impl Flight {
     /// Of no line, against a table.
-    pub fn new(alloc: Global, table: &[Link]) -> Result<Flight, AllocError> {
+    pub fn new(
+        alloc: Global,
+        table: &[Link],
+        recorders: PerNetwork<RecorderFacts>,
+    ) -> Result<Flight, AllocError> {
         let mut skews = Vec::with_capacity(alloc, table.len())?;
         for link in table {
             skews.push(SkewState::new(Long::of(link.skew)))?;
@@ -66,8 +71,8 @@ impl Flight {
             alloc,
             accounts: Accounts::new(alloc, table.len())?,
             networks: PerNetwork {
-                a: NetworkState::new(alloc),
-                b: NetworkState::new(alloc),
+                a: NetworkState::new(alloc, recorders.a),
+                b: NetworkState::new(alloc, recorders.b),
             },
             clocks: Clocks::new(alloc),
             skews,

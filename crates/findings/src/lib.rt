@@ -8,7 +8,7 @@
 //! findings at the end. docs/REPORT.md defines signs and kinds.
 //!
 //! ```text
-//! let mut analysis = Analysis::new(alloc, &config)?;
+//! let mut analysis = Analysis::new(alloc, &config, recorders)?;
 //! analysis.note(&line)?;
 //! let findings = analysis.end(RecordingEnd::Whole, RecordingEnd::Whole)?;
 //! ```
@@ -32,6 +32,7 @@ mod network;
 mod passage;
 mod per_network;
 mod rate;
+mod recorder;
 mod samples;
 mod signs;
 mod skews;
@@ -45,4 +46,5 @@ pub use kind::{Kind, Level};
 pub use long::{Long, Time};
 pub use network::Outside;
 pub use per_network::PerNetwork;
+pub use recorder::{Crossing, Hole, RecorderFacts};
 pub use signs::{Side, Sign, SignCount, Signs, Word};

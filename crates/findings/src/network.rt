@@ -1,5 +1,7 @@
 //! The state of a network: when it has lines, and its longest pauses.
+use crate::accounts::Span;
 use crate::long::{Long, Time, ZERO};
+use crate::recorder::RecorderFacts;
 use std::alloc::{AllocError, Global};
 
 /// So many pauses are kept, each longer than all later ones.
@@ -51,6 +53,8 @@ pub struct NetworkState {
     /// The greatest common divisor of the times since its first line.
     pub grain: Time,
     pub outside: Vec<Outside>,
+    /// The facts on its recording that no line tells.
+    pub recorder: RecorderFacts,
 }
 
 /// The greatest common divisor. So many steps are enough for any two numbers.
@@ -69,7 +73,7 @@ pub fn common_divisor(one: Time, other: Time) -> Time {
 
 impl NetworkState {
     /// A network without frames.
-    pub fn new(alloc: Global) -> NetworkState {
+    pub fn new(alloc: Global, recorder: RecorderFacts) -> NetworkState {
         NetworkState {
             first: None,
             last: None,
@@ -80,6 +84,7 @@ impl NetworkState {
             pauses: Vec::new(alloc),
             grain: ZERO,
             outside: Vec::new(alloc),
+            recorder,
         }
     }
 
@@ -121,6 +126,12 @@ impl NetworkState {
     pub fn longest_since(&self, from: Time) -> Option<Pause> {
         let mut pauses = self.pauses.iter().filter(|pause| pause.from >= from);
         pauses.next().copied()
+    }
+
+    /// The time within a span that the recording lacks, if there is one.
+    pub fn hole_in(&self, span: Span) -> Option<Span> {
+        let mut holes = self.recorder.holes.iter().map(|hole| hole.span());
+        holes.find(|hole| span.from <= hole.from && hole.to <= span.to)
     }
 
     /// Is a pause at least 8 times as long as usual?

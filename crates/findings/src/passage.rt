@@ -56,6 +56,9 @@ impl Passage {
         flight: &mut Flight,
         link: &LinkState,
     ) -> Result<Option<Handle>, AllocError> {
+        if let Some(hole) = flight.networks.of(self.network).hole_in(self.span) {
+            return Ok(Some(self.note_torn(flight, hole)?));
+        }
         let lane = link.lane(self.network);
         let in_place = lane.strange.filter(|_| lane.strangers == self.missing.all);
         let pause = flight
@@ -123,6 +126,16 @@ impl Passage {
                 !twin.window.is_seen(twin.head - *position)
                     || pause.from - room <= at && at <= pause.to() + room
             })
+    }
+
+    /// The recording lacks a part between the two frames: what is missing there isn't recorded.
+    fn note_torn(&self, flight: &mut Flight, hole: Span) -> Result<Handle, AllocError> {
+        let account = flight.accounts.of_network(Kind::Torn, self.network)?;
+        let sign = Sign::on(Word::Unrecorded, self.network);
+        flight
+            .accounts
+            .note(account, sign, hole.from, self.missing.all)?;
+        Ok(account)
     }
 
     /// Notes the missing numbers.

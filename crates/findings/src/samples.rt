@@ -63,12 +63,12 @@ impl<const N: usize> Samples<N> {
 
     /// The least sample.
     pub fn least(&self) -> Long {
-        self.at(0, 1)
+        self.values().iter().copied().min().unwrap_or(ZERO)
     }
 
     /// The greatest sample.
     pub fn greatest(&self) -> Long {
-        self.at(self.count.saturating_sub(1), self.count.max(1))
+        self.values().iter().copied().max().unwrap_or(ZERO)
     }
 
     /// Without its first.

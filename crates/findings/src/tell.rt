@@ -1,5 +1,5 @@
 //! From accounts to findings: which links have one in common, how bad it is, and in which order they stand.
-use crate::accounts::{Facts, Handle, NO_FACTS, Span};
+use crate::accounts::{Facts, Handle, NO_FACTS, SPANS, Span};
 use crate::analysis::RecordingEnd;
 use crate::finding::{Finding, Findings, LinkLevel, LinkRate};
 use crate::flight::Flight;
@@ -267,6 +267,9 @@ impl Telling<'_> {
                 to: end,
             },
         )?;
+        self.torn(network)?;
+        self.recorder(network)?;
+        self.crossed(network)?;
         let lines = self.flight.networks.of(network).lines;
         for kind in OF_NETWORKS {
             self.class(kind, network, lines)?;
@@ -347,6 +350,70 @@ impl Telling<'_> {
         self.push((kind, level, Side::of(network)), sum, count, &[])
     }
 
+    /// The times that a recording lacks, since files of it are torn.
+    fn torn(&mut self, network: Network) -> Result<(), AllocError> {
+        let holes = &self.flight.networks.of(network).recorder.holes;
+        let (Some(first), Some(last)) = (holes.first().copied(), holes.last().copied()) else {
+            return Ok(());
+        };
+        let times = holes.len() as u64;
+        let mut spans = Vec::new(self.alloc);
+        for hole in holes.iter().take(SPANS) {
+            spans.push(hole.span())?;
+        }
+        let account = self.flight.accounts.of_network(Kind::Torn, network)?;
+        let mut sum = self.sum_of(account)?;
+        let count = sum.signs.sum(Word::Unrecorded);
+        sum.span = Some(first.span().with(last.span()));
+        let kind = (Kind::Torn, Level::Notice, Side::of(network));
+        self.push(kind, sum, count, &[])?;
+        if let Some(finding) = self.latest() {
+            finding.times = times;
+            finding.spans = spans;
+        }
+        Ok(())
+    }
+
+    /// The packets that a recorder dropped, and the frames of it that have a tag.
+    fn recorder(&mut self, network: Network) -> Result<(), AllocError> {
+        let recorder = &self.flight.networks.of(network).recorder;
+        let counts = [
+            (Kind::Dropped, recorder.dropped),
+            (Kind::Tagged, recorder.tagged),
+        ];
+        for (kind, count) in counts {
+            if count > 0 {
+                let mut sum = Sum::none(self.alloc);
+                let (from, to) = (ZERO, self.end);
+                sum.span = Some(Span { from, to });
+                self.push((kind, Level::Notice, Side::of(network)), sum, count, &[])?;
+            }
+        }
+        Ok(())
+    }
+
+    /// The links whose source addresses name the other network.
+    fn crossed(&mut self, network: Network) -> Result<(), AllocError> {
+        let mut sum = Sum::none(self.alloc);
+        let mut places = Vec::new(self.alloc);
+        let mut count = 0u64;
+        for crossing in self.flight.networks.of(network).recorder.crossed.iter() {
+            let id = crossing.link.0;
+            let place = self.links.iter().position(|link| link.id == id);
+            if let Some(place) = place {
+                places.push(place)?;
+                count = count.saturating_add(crossing.frames);
+                let span = crossing.span();
+                sum.span = Some(sum.span.map_or(span, |held| held.with(span)));
+            }
+        }
+        if places.is_empty() {
+            return Ok(());
+        }
+        let kind = (Kind::Crossed, Level::Trouble, Side::of(network));
+        self.push(kind, sum, count, &places)
+    }
+
     /// Frames of a class that has no link.
     fn class(&mut self, kind: Kind, network: Network, lines: u64) -> Result<(), AllocError> {
         let Some(account) = self.flight.accounts.find_of_network(kind, network) else {
@@ -364,7 +431,12 @@ impl Telling<'_> {
         for word in words {
             count = count.saturating_add(sum.signs.sum(word));
         }
-        let level = if count.saturating_mul(4) >= lines {
+        let expected = match kind {
+            Kind::Foreign => self.flight.networks.of(network).recorder.expected,
+            _ => 0,
+        };
+        let told = count.saturating_sub(expected);
+        let level = if told.saturating_mul(4) >= lines && told > 0 {
             Level::Trouble
         } else if kind == Kind::Foreign {
             Level::Info

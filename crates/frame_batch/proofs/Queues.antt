@@ -161,7 +161,7 @@ frame_here b k r e = slice_get-map (record_frame b.block) b.left k ∙ ap (optio
 
 -- ---- frames below a moment
 
--- those before an index pass, and so does the one there
+-- the elements before an index pass, and so does the one there
 pub one_more_below : {X : Type 0} (p : X → Bool) (xs : List X) (k : ℕ) (x : X) → prefix_len p (take k xs) ≡ k → slice_get xs k ≡ Some x → p x ≡ true
     → prefix_len p (take (k + 1) xs) ≡ k + 1
 one_more_below p [] k x all here t = cc
@@ -176,7 +176,7 @@ one_more_below p (y ∷ xs) (suc k) x all here t =
     ap (λ (n : ℕ). prefix_len p (take n (y ∷ xs))) at ∙ ap (λ (b : Bool). cond b (1 + prefix_len p (take (k + 1) xs)) 0) pass ∙ omega (arith, more)))
     (λ stop. (let none : 0 ≡ suc k = sym (ap (λ (b : Bool). cond b (1 + prefix_len p (take k xs)) 0) stop) ∙ all in absurd (omega (arith, none))))
 
--- those before an index pass, and the one there doesn't
+-- the elements before an index pass, and the one there doesn't
 pub stops_there : {X : Type 0} (p : X → Bool) (xs : List X) (k most : ℕ) (x : X) → prefix_len p (take k xs) ≡ k → k < most → slice_get xs k ≡ Some x
     → p x ≡ false → prefix_len p (take most xs) ≡ k
 stops_there p [] k most x all less here t = cc
@@ -199,7 +199,7 @@ take_min (suc n) (x ∷ xs) =
     let at : min (suc n) (length (x ∷ xs)) ≡ suc (min n (length xs)) = omega arith in
     ap (λ (k : ℕ). take k (x ∷ xs)) at ∙ ap (λ (l : List _). x ∷ l) (take_min n xs)
 
--- what stops within the first list stops there whatever follows
+-- a prefix that stops within the first list stops there whatever follows
 pub stops_within : {X : Type 0} (p : X → Bool) (n : ℕ) (xs ys : List X) → prefix_len p (take n xs) < length xs
     → prefix_len p (take n (xs ++ ys)) ≡ prefix_len p (take n xs)
 stops_within p n [] ys less = absurd (omega (arith, less))

@@ -14,7 +14,7 @@ record_bytes block r = slice_range block r.from r.to
 abbrev pub record_frame : List ℕ → FrameRecord → Frame
 record_frame block r = frame_with r.network r.number r.stamp.0 r.whole (record_bytes block r)
 
--- what is known without the bytes
+-- the facts that are known without the bytes
 abbrev pub record_facts : FrameRecord → Facts
 record_facts r = record { constant = r.constant; link = r.link; sequence = r.sequence }
 
@@ -28,7 +28,7 @@ pub record IsRecordOf (block : List ℕ) (r : FrameRecord) : Type 0 where
 abbrev pub AreRecordsOf : List ℕ → List FrameRecord → Type 0
 AreRecordsOf block records = AllByRecursion (IsRecordOf block) records
 
--- what stands of a batch: its block, and the records of the frames that weren't taken out
+-- the state of a batch: its block, and the records of the frames that weren't taken out
 pub record BatchState : Type 0 where
   pub block : List ℕ
   pub left : List FrameRecord
@@ -37,7 +37,7 @@ pub record BatchState : Type 0 where
 abbrev pub batch_frames : BatchState → List Frame
 batch_frames b = map (record_frame b.block) b.left
 
--- those of what may be left of a batch
+-- the frames of what may be left of a batch
 abbrev pub frames_left : Option BatchState → List Frame
 frames_left None = []
 frames_left (Some b) = batch_frames b

@@ -34,7 +34,7 @@ use Rattle.ledger_report.proofs.Readings.{right_line}
 
 -- ---- a line that is wrong
 
--- what may be wrong with the line of a frame
+-- the possible faults of the line of a frame
 abbrev IsFrameWrong : WrongLine → Type 0
 IsFrameWrong (wrongs.Text fault) = ⊥
 IsFrameWrong wrongs.Counts = ⊥

@@ -99,7 +99,7 @@ first_known known none network one two three = rw one (rw two three)
 pub first_unknown : (known none : Bool) (network : Network) → known ≡ not none → none ≡ false → network ≡ B → network ≡ (if known then B else A)
 first_unknown known none network one two three = rw one (rw two three)
 
--- what is so of the next one, of which so many lines of frames are
+-- a claim on the next one, of which so many lines of frames are
 pub at_next : (P : Network → ℕ → Type 0) (frames : List FrameLine) (endings : PerNetwork (Option TapEnding)) (network : Network) (count : ℕ)
     → is_some endings.b ≡ false → network ≡ (if is_some endings.a then B else A) → count ≡ tap_frames frames network
     → P network count → P (tap_network (taps_in endings)) (tap_frames frames (tap_network (taps_in endings)))

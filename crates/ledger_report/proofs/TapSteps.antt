@@ -70,7 +70,7 @@ lower_utf8 bytes all = IsUtf8-from_ascii bytes (λ i. at i (cases_lt i (length b
 
 -- ---- the whole line
 
--- what a line of these words says, by its reason
+-- all that a line of these words says, by its reason
 pub said_by : (network : Network) (frames : ℕ) (line : List ℕ) (end : TapEnd) (said rest : List ℕ) (reason : Option (String Global))
     (result : Option TapEnding)
     → line ≡ tap_start network ++ said → said ≡ end_start end ++ (decimal frames ++ rest)

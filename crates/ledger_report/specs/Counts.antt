@@ -41,7 +41,7 @@ counts_of lines = totals_of (entries_of lines)
 abbrev pub network_counts : List FrameLine → Network → Totals
 network_counts lines network = counts_of (filter (is_on network) lines)
 
--- those of the line of a link, by its identifier
+-- the counts of the line of a link, by its identifier
 abbrev pub link_counts : List FrameLine → ℕ → LinkCounts
 link_counts lines id = tally.link_counts (entries_of lines) (record { 0 = id })
 

@@ -56,7 +56,7 @@ abbrev pub taps_with : LedgerLine → ReadLine → List ReadLine → List Tap �
 taps_with (lines.Counts kinds.Tap) r before taps = record { text = r.text; frames = frame_lines (reverse before) } ∷ taps
 taps_with line r before taps = taps
 
--- those of a ledger
+-- the lines `tap` of a ledger
 abbrev pub taps_of : List ReadLine → List Tap
 taps_of [] = []
 taps_of (r ∷ before) = taps_with r.line r before (taps_of before)

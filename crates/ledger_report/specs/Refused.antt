@@ -56,7 +56,7 @@ IsWrongNext table wrongs.Counts rs stage left =
 IsWrongNext table wrong rs stage left =
     (v : FrameLine) × (text : List ℕ) × IsNext stage left text (lines.Frame v) × (wrong_of table.links (reverse (frame_lines rs)) v ≡ Some wrong)
 
--- what the fault says of the line after these. Where the source failed, what was read ahead of it ends no line, and what it still gives stands
+-- all that the fault says of the line after these. Where the source failed, what was read ahead of it ends no line, and what it still gives stands
 -- after that.
 abbrev pub IsReportFault : VlTable → NoReport → List ReadLine → LedgerStage → Option (List ℕ) → Option (List ℕ) → Type 0
 IsReportFault table (faults.Line number wrong) rs stage left rest = (number ≡ length rs + 1) × IsWrongNext table wrong rs stage left

@@ -14,7 +14,7 @@ pub record Said : Type 0 where
   pub frames : ℕ
   pub reason : List ℕ
 
--- what is kept of it
+-- the part of it that is kept
 abbrev pub said_in : TapEnding → Said
 said_in ending = record { end = ending.end; frames = ending.frames; reason = string_bytes ending.reason }
 
@@ -29,7 +29,7 @@ end_start ends.Clean = codes "clean "
 end_start ends.Cut = codes "cut "
 end_start ends.Bad = codes "bad "
 
--- what stands after the number of frames: a word where the recording isn't read on, else nothing
+-- all that stands after the number of frames: a word where the recording isn't read on, else nothing
 abbrev pub reason_text : TapEnd → List ℕ → List ℕ
 reason_text ends.Bad reason = codes " " ++ reason
 reason_text end reason = []

@@ -90,7 +90,7 @@ is_beside network delivery = option_map_or (λ line. not (is_same_network line.n
 abbrev pub skew_to : ℕ → Option FrameLine → ℕ
 skew_to stamp delivery = stamp - option_map_or (λ line. line.stamp.0) delivery 0
 
--- ---- what is wrong
+-- ---- the fault
 
 -- with a line of this link, where this is the latest delivery of its number
 abbrev pub is_link_wrong : VirtualLink → Option FrameLine → FrameLine → WrongLine → Bool

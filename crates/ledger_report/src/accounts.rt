@@ -53,9 +53,7 @@ struct Bounds {
 impl Bounds {
     /// Of a full account, which has seen no frame.
     fn full(link: &Link) -> Bounds {
-        let cap = u128::from(link.smax).saturating_mul(u128::from(
-            link.bag.saturating_add(link.jitter),
-        ));
+        let cap = u128::from(link.smax) * u128::from(link.bag.saturating_add(link.jitter));
         Bounds {
             smax: link.smax,
             bag: link.bag,
@@ -68,13 +66,13 @@ impl Bounds {
 
     /// The charge of a frame of this size.
     fn charge(&self, size: u32) -> u128 {
-        u128::from(size).saturating_mul(u128::from(self.bag))
+        u128::from(size) * u128::from(self.bag)
     }
 
     /// Adds the credit since the frame before.
     fn credit(&mut self, stamp: u64) {
         let since = stamp.saturating_sub(self.last.unwrap_or(stamp));
-        let credit = u128::from(self.smax).saturating_mul(u128::from(since));
+        let credit = u128::from(self.smax) * u128::from(since);
         self.least = self.least.saturating_add(credit).min(self.cap);
         self.most = self.most.saturating_add(credit).min(self.cap);
         self.last = Some(stamp);

@@ -1,7 +1,5 @@
 //! The counts of a lane or a network, with their first and last places and their bins.
 
-ghost use Rattle.std.specs.Prelude.{◌≡◌, ◌<◌, vec_len};
-
 use crate::moment::{FramePlace, LinePlace};
 use crate::series::{Merge, Series};
 use integrity::Integrity;
@@ -49,9 +47,6 @@ impl Anomaly {
         }
     }
 }
-
-/// How many there are.
-const ANOMALIES: usize = 14;
 
 /// A count, with the places of the first and the last frame, and its bins.
 #[derive(Drop)]
@@ -103,35 +98,51 @@ impl AnomalyTally {
     }
 }
 
-/// The marks of a lane or a network by their signs.
+/// A sign with its mark.
 #[derive(Drop)]
-pub struct Anomalies {
-    marks: Vec<AnomalyTally>,
-    ghost whole: { vec_len marks ≡ 14 },
+struct Mark {
+    sign: Anomaly,
+    tally: AnomalyTally,
 }
 
-impl Anomaly {
-    /// Where its mark stands.
-    #[inline(always)]
-    fn index(self) -> usize
-        ensures { result < 14 }
-    {
-        self as usize
-    }
+/// The marks of a lane or a network by their signs. A sign takes memory once it came.
+#[derive(Drop)]
+pub struct Anomalies {
+    alloc: Global,
+    /// Of the signs that came, in the order in which they first did.
+    marks: Vec<Mark>,
+    /// The mark of a sign that never came.
+    none: AnomalyTally,
 }
 
 impl Anomalies {
-    pub(crate) fn new(alloc: Global) -> Result<Anomalies, AllocError> {
-        let mut marks = Vec::with_capacity(alloc, ANOMALIES)?;
-        for _ in 0..ANOMALIES {
-            marks.push(AnomalyTally::new(alloc))?;
+    /// Of no line. Allocates nothing.
+    pub(crate) fn new(alloc: Global) -> Anomalies {
+        Anomalies {
+            alloc,
+            marks: Vec::new(alloc),
+            none: AnomalyTally::new(alloc),
         }
-        Ok(Anomalies { marks })
     }
 
     /// The mark of a sign.
     pub fn of(&self, sign: Anomaly) -> &AnomalyTally {
-        &self.marks[sign.index()]
+        match self.marks.iter().find(|mark| mark.sign == sign) {
+            Some(mark) => &mark.tally,
+            None => &self.none,
+        }
+    }
+
+    /// Where the mark of a sign stands, which is made where it has none.
+    fn place_of(&mut self, sign: Anomaly) -> Result<usize, AllocError> {
+        if let Some(place) = self.marks.iter().position(|mark| mark.sign == sign) {
+            return Ok(place);
+        }
+        self.marks.push(Mark {
+            sign,
+            tally: AnomalyTally::new(self.alloc),
+        })?;
+        Ok(self.marks.len().saturating_sub(1))
     }
 
     /// Counts a line so often for a sign.
@@ -142,23 +153,33 @@ impl Anomalies {
         at: &LinePlace,
         amount: u64,
     ) -> Result<(), AllocError> {
-        self.marks[sign.index()].hit(at, amount)
+        let place = self.place_of(sign)?;
+        match self.marks.get_mut(place) {
+            Some(mark) => mark.tally.hit(at, amount),
+            None => Ok(()),
+        }
     }
 
     /// Takes so many of a sign back.
     pub(crate) fn take_back(&mut self, sign: Anomaly, tick: u64, amount: u64) {
-        self.marks[sign.index()].take_back(tick, amount);
+        if let Some(mark) = self.marks.iter_mut().find(|mark| mark.sign == sign) {
+            mark.tally.take_back(tick, amount);
+        }
     }
 
     /// Adds a mark to that of a sign.
     pub(crate) fn absorb(&mut self, sign: Anomaly, other: &AnomalyTally) -> Result<(), AllocError> {
-        self.marks[sign.index()].absorb(other)
+        let place = self.place_of(sign)?;
+        match self.marks.get_mut(place) {
+            Some(mark) => mark.tally.absorb(other),
+            None => Ok(()),
+        }
     }
 
     /// Doubles the width of all bins so often in all.
     pub(crate) fn align(&mut self, doublings: u32) {
         for mark in self.marks.iter_mut() {
-            mark.bins.align(doublings);
+            mark.tally.bins.align(doublings);
         }
     }
 }

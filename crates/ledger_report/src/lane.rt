@@ -44,8 +44,9 @@ pub struct LaneLine {
 }
 
 impl LaneReport {
-    pub(crate) fn new(alloc: Global) -> Result<LaneReport, AllocError> {
-        Ok(LaneReport {
+    /// Of no line. Allocates nothing.
+    pub(crate) fn new(alloc: Global) -> LaneReport {
+        LaneReport {
             frames: 0,
             bytes: 0,
             first: 0,
@@ -55,12 +56,12 @@ impl LaneReport {
             interval_sum: 0,
             intervals: 0,
             excess_lead: 0,
-            signs: Anomalies::new(alloc)?,
+            signs: Anomalies::new(alloc),
             lines: Series::new(alloc, Merge::Sum),
             loads: Series::new(alloc, Merge::Sum),
             least_bins: Series::new(alloc, Merge::Least),
             greatest_bins: Series::new(alloc, Merge::Greatest),
-        })
+        }
     }
 
     /// Notes a line of class `toolong` or `regular`. `least` is BAG less jitter, in nanoseconds.

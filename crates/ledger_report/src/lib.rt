@@ -8,7 +8,7 @@
 //! left out.
 //!
 //! ```text
-//! let report = read_report(alloc, &config, source, None)?;
+//! let report = read_report(alloc, &config, source, None, recorders)?;
 //! let lost = report.links[0].lanes.a.signs.of(Anomaly::Lost).count;
 //! ```
 #![tactic(auto)]
@@ -43,7 +43,7 @@ pub use counts::FrameCounts;
 pub use counts_lines::{TapEnd, TapEnding};
 pub use disputed::{Difference, Disputed};
 pub use fault::{NoReport, ReportRefused, WrongLine};
-pub use findings::PerNetwork;
+pub use findings::{Crossing, Hole, PerNetwork, RecorderFacts};
 pub use flights::{comparison_at, is_new_outside};
 pub use lane::LaneReport;
 pub use link::LinkReport;

@@ -40,8 +40,9 @@ pub struct LinkReport {
 }
 
 impl LinkReport {
-    pub(crate) fn new(alloc: Global, link: &Link) -> Result<LinkReport, AllocError> {
-        Ok(LinkReport {
+    /// Of no line. Allocates nothing.
+    pub(crate) fn new(alloc: Global, link: &Link) -> LinkReport {
+        LinkReport {
             id: link.id,
             bag: link.bag,
             jitter: link.jitter,
@@ -50,8 +51,8 @@ impl LinkReport {
             integrity: link.integrity,
             redundancy: link.redundancy,
             lanes: PerNetwork {
-                a: LaneReport::new(alloc)?,
-                b: LaneReport::new(alloc)?,
+                a: LaneReport::new(alloc),
+                b: LaneReport::new(alloc),
             },
             copies: 0,
             skew_sum: 0,
@@ -64,7 +65,7 @@ impl LinkReport {
             },
             lost_both: 0,
             classes: Classes::new(alloc),
-        })
+        }
     }
 
     /// Notes a line of class `toolong` or `regular`, and where it is a copy, its delivery.

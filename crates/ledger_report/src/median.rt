@@ -1,7 +1,6 @@
 //! The median of values and those of other ranks, from counts of classes of them.
 
-ghost use Rattle.std.specs.Prelude.{◌+◌, ◌-◌, ◌<◌, ◌≤◌, ◌^◌, min, vec_len};
-ghost use Rattle.ledger_report.specs.declared.median.TheConstants.{CLASSES};
+ghost use Rattle.std.specs.Prelude.{◌<◌, ◌≤◌};
 
 use std::alloc::{AllocError, Global};
 
@@ -10,11 +9,13 @@ const CLASSES: usize = 448;
 /// A greater value counts as this one.
 const GREATEST: u64 = 2_147_483_647;
 
-/// Counts of values by their five leading binary digits.
+/// Counts of values by their five leading binary digits. The skews of a link lie near each other, so that few
+/// classes of all take memory.
 #[derive(Drop)]
 pub struct Classes {
+    /// The least class that came, and the counts from it up to the greatest that came.
+    first: usize,
     counts: Vec<u64>,
-    ghost room: { vec_len counts ≤ CLASSES },
 }
 
 /// The leading binary digits of a value, and how many come after them.
@@ -62,26 +63,40 @@ fn least_of(class: usize) -> u64
 impl Classes {
     pub(crate) fn new(alloc: Global) -> Classes {
         Classes {
+            first: 0,
             counts: Vec::new(alloc),
         }
-    }
-
-    /// Has a count for each class.
-    #[inline]
-    fn make_room(&mut self) -> Result<(), AllocError> {
-        if self.counts.is_empty() {
-            self.counts.resize(CLASSES, 0)?;
-        }
-        Ok(())
     }
 
     /// Counts a value.
     #[inline]
     pub(crate) fn add(&mut self, value: u64) -> Result<(), AllocError> {
-        self.make_room()?;
-        if let Some(count) = self.counts.get_mut(class_of(value)) {
+        let class = class_of(value);
+        if let Some(place) = class.checked_sub(self.first)
+            && let Some(count) = self.counts.get_mut(place)
+        {
             *count = count.saturating_add(1);
+            return Ok(());
         }
+        self.widen(class)?;
+        if let Some(count) = self.counts.get_mut(class.saturating_sub(self.first)) {
+            *count = 1;
+        }
+        Ok(())
+    }
+
+    /// Has a count for this class.
+    #[cold]
+    fn widen(&mut self, class: usize) -> Result<(), AllocError> {
+        if self.counts.is_empty() {
+            self.first = class;
+        }
+        let count = self.counts.len();
+        let below = self.first.saturating_sub(class);
+        let most = count.max(class.saturating_sub(self.first).saturating_add(1));
+        self.counts.resize(most.saturating_add(below), 0)?;
+        self.counts.rotate_right(below);
+        self.first = self.first.min(class);
         Ok(())
     }
 
@@ -94,9 +109,9 @@ impl Classes {
     /// digits; 0 where there is none.
     pub(crate) fn ranked(&self, index: u64) -> u64 {
         let mut left = index.saturating_add(1);
-        for (class, held) in self.counts.iter().enumerate() {
+        for (place, held) in self.counts.iter().enumerate() {
             if left <= *held {
-                return least_of(class);
+                return least_of(self.first.saturating_add(place).min(CLASSES - 1));
             }
             left = left.saturating_sub(*held);
         }

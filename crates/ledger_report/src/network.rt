@@ -40,18 +40,19 @@ pub struct NetworkReport {
 }
 
 impl NetworkReport {
-    pub(crate) fn new(alloc: Global) -> Result<NetworkReport, AllocError> {
-        Ok(NetworkReport {
+    /// Of no line. Allocates nothing.
+    pub(crate) fn new(alloc: Global) -> NetworkReport {
+        NetworkReport {
             frames: 0,
             first: 0,
             last: 0,
             bytes: 0,
-            signs: Anomalies::new(alloc)?,
+            signs: Anomalies::new(alloc),
             lines: Series::new(alloc, Merge::Sum),
             loads: Series::new(alloc, Merge::Sum),
             skews: Series::new(alloc, Merge::Greatest),
             number: 0,
-        })
+        }
     }
 
     /// Notes a line of the network.

@@ -21,7 +21,7 @@ use crate::network::NetworkReport;
 use crate::part::Part;
 use crate::statistics::Statistics;
 use afdx_frame::{Network, VlId};
-use findings::{Findings, PerNetwork};
+use findings::{Findings, PerNetwork, RecorderFacts};
 use ledger_text::{
     FoundLine, FrameLine, LedgerLine, LedgerReader, LedgerStop, LinesRefused, ReadFault,
 };
@@ -189,6 +189,7 @@ fn read_lines<S: TapSource>(
 ///
 /// One pass, numbers alone: the memory is bounded by the table's links, some 40 KB each, whatever the
 /// ledger's length. All lines are checked; of those that `part` doesn't take the report has nothing else.
+/// `recorders` says what the ledger doesn't tell of its recordings.
 ///
 /// # Errors
 ///
@@ -200,6 +201,7 @@ pub fn read_report<S: TapSource + Drop>(
     config: &Config,
     source: S,
     part: Option<Part>,
+    recorders: PerNetwork<RecorderFacts>,
 ) -> Result<Report, ReportRefused>
     ensures told { IfOk result (TellsLedger (S.remaining source) config.now) }
     ensures refused { IfErr result (λ refused. (after : S) × IsRefused config.now
@@ -214,7 +216,7 @@ pub fn read_report<S: TapSource + Drop>(
             });
         }
     };
-    let mut reading = match Reading::new(alloc, config, part) {
+    let mut reading = match Reading::new(alloc, config, part, recorders) {
         Ok(reading) => reading,
         Err(AllocError) => {
             return Err(ReportRefused {
@@ -286,11 +288,12 @@ pub fn read_part<S: TapSource + Drop>(
     config: &Config,
     source: S,
     part: Option<Part>,
+    recorders: PerNetwork<RecorderFacts>,
 ) -> Result<Report, NoReport> {
     let Ok(mut ledger) = LedgerReader::new(alloc, source) else {
         return Err(NoReport::Memory);
     };
-    let Ok(mut reading) = Reading::new(alloc, config, part) else {
+    let Ok(mut reading) = Reading::new(alloc, config, part, recorders) else {
         return Err(NoReport::Memory);
     };
     let stop = read_partial(config, &mut ledger, &mut reading)?;
@@ -306,7 +309,12 @@ pub fn read_part<S: TapSource + Drop>(
 }
 
 impl Reading {
-    fn new(alloc: Global, config: &Config, part: Option<Part>) -> Result<Reading, AllocError>
+    fn new(
+        alloc: Global,
+        config: &Config,
+        part: Option<Part>,
+        recorders: PerNetwork<RecorderFacts>,
+    ) -> Result<Reading, AllocError>
         ensures counts { IfOk result (λ reading. AreCountsOf [] reading.counts) }
         ensures frames { IfOk result (λ reading. HasTaken [] reading.frames) }
         ensures lines { IfOk result (λ reading. HasCounted [] reading.lines) }
@@ -315,7 +323,7 @@ impl Reading {
             counts: FrameCounts::new(alloc)?,
             frames: FrameLines::new(alloc)?,
             lines: CountsLines::new(alloc),
-            statistics: Statistics::new(alloc, config, part)?,
+            statistics: Statistics::new(alloc, config, part, recorders)?,
         })
     }
 

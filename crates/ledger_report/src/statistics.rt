@@ -12,7 +12,7 @@ use crate::part::Part;
 use crate::report::OutsideLink;
 use crate::series::doublings_for;
 use afdx_frame::{Network, VL_ID_COUNT, VlId};
-use findings::{Analysis, Findings, Line, Noted, PerNetwork, RecordingEnd, Word};
+use findings::{Analysis, Findings, Line, Noted, PerNetwork, RecorderFacts, RecordingEnd, Word};
 use integrity::Integrity;
 use ledger_text::FrameLine;
 use std::alloc::{AllocError, Global};
@@ -107,7 +107,7 @@ fn index_of(alloc: Global, config: &Config) -> Result<Vec<u16>, AllocError> {
 fn links_of(alloc: Global, config: &Config) -> Result<Vec<LinkReport>, AllocError> {
     let mut links = Vec::with_capacity(alloc, config.links().len())?;
     for link in config.links() {
-        links.push(LinkReport::new(alloc, link)?)?;
+        links.push(LinkReport::new(alloc, link))?;
     }
     Ok(links)
 }
@@ -171,19 +171,20 @@ impl Statistics {
         alloc: Global,
         config: &Config,
         part: Option<Part>,
+        recorders: PerNetwork<RecorderFacts>,
     ) -> Result<Statistics, AllocError> {
         Ok(Statistics {
             start: 0,
             width: FIRST_WIDTH,
             latest: None,
             networks: PerNetwork {
-                a: NetworkReport::new(alloc)?,
-                b: NetworkReport::new(alloc)?,
+                a: NetworkReport::new(alloc),
+                b: NetworkReport::new(alloc),
             },
             links: links_of(alloc, config)?,
             index: index_of(alloc, config)?,
             outside: Vec::new(alloc),
-            analysis: Analysis::new(alloc, config)?,
+            analysis: Analysis::new(alloc, config, recorders)?,
             accounts: Accounts::new(alloc, config)?,
             part,
             findings: Findings::none(alloc),

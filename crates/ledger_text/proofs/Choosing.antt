@@ -32,7 +32,7 @@ start_at vs v old start was is = is ∙ start_is old v ∙ ap (λ (x : Option St
 pub first_is : (vs : List FrameLine) (v : FrameLine) (start : Stamp) → start ≡ start_of (first_stamp vs) v → Some start ≡ first_stamp (vs ++ v ∷ [])
 first_is vs v start is = ap (λ (x : Stamp). Some x) is ∙ sym (first_more vs v)
 
--- ---- what is said of a line
+-- ---- all that is said of a line
 
 -- It is said of this line whether it is taken, and those after it can be asked for.
 abbrev pub Says : Selection → Option Around → List FrameLine → FrameLine → Bool → Option Neighbours → Type 0

@@ -32,7 +32,7 @@ use Rattle.ledger_text.specs.declared.fault.FrameFault.{FrameFault}
 use Rattle.ledger_text.specs.declared.fault.FrameFault.TheVariants as faults
 use Rattle.ledger_text.proofs.Spelling.{make, one_class, one_policing, one_integrity, one_link, one_number, wider}
 
--- ---- what a step of reading says
+-- ---- all that a step of reading says
 
 pub got : {T : Type 0} (Fits : T → Type 0) (text : T → List ℕ) (field : List ℕ) (o : Option T) (r : Result T FrameFault) (x : T)
     → Reads Fits text field o → o ≡ result_ok r → r ≡ Ok x → Fits x × (text x ≡ field)

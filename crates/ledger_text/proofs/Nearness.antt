@@ -94,7 +94,7 @@ near_which selection count lines v id n near = elim (splits lines v near.before 
   })
 ]
 
--- ---- whether a line is of a link
+-- ---- true if a line is of a link
 
 pub of_none : (v : FrameLine) (id : ℕ) → v.link ≡ None → is_of id v ≡ false
 of_none v id e = rw e refl
@@ -264,7 +264,7 @@ noted_none selection count id link noted none fresh = record {
 pub count_few : (id : ℕ) (vs : List FrameLine) (most : ℕ) → length vs < most → count_of id vs < most
 count_few id vs most few = omega (arith, count_by-le-length (is_of id) vs)
 
--- ---- what a call that may get no memory leaves
+-- ---- all that a call that may get no memory leaves
 
 pub note_left : (selection : Selection) (count : ℕ) (lines : List FrameLine) (v : FrameLine) (id : ℕ) (selected : Bool) (r : Result (Unit {0}) AllocError) (old new : LinkRuns)
     → is_of id v ≡ true → (selected ≡ true) ↔ IsSelected selection lines v → HasNotedLink selection (around_of count lines) id old

@@ -5,7 +5,7 @@ use Rattle.std.proofs.lemmas.List.{take_more, get_or_default, append-nil}
 use Rattle.std.proofs.lemmas.Grind.{flat_map-append}
 use Rattle.std.proofs.lemmas.Bool.Decides.{leb_tells, eqb_tells}
 
--- what the items up to one more stand for
+-- all that the items up to one more stand for
 pub joined : {X Y : Type 0} (f : X → List Y) (all : List X) (n : ℕ) (item : X) (old named : List Y) → n < length all → item ≡ get_or all n item
     → old ≡ flat_map f (take n all) → named ≡ f item → old ++ named ≡ flat_map f (take (n + 1) all)
 joined f all n item old named lt is so e =
@@ -15,7 +15,7 @@ joined f all n item old named lt is so e =
     let here : f item ≡ f (get_or all n item) = ap f is in
     cc
 
--- what holds of each item so far and of this one
+-- a claim that holds of each item so far and of this one
 pub one_more : {X : Type 0} (P : X → Type 0) (all : List X) (n m : ℕ) (item : X) → n < length all → item ≡ get_or all n item → P item
     → ((k : ℕ) → k < n → HoldsAt P all k) → m ≡ n + 1 → (k : ℕ) → k < m → HoldsAt P all k
 one_more P all n m item lt is here earlier e k b d = elim (leb_tells n k) [

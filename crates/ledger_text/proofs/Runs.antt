@@ -8,7 +8,7 @@ use Rattle.ledger_text.specs.declared.link_runs.Run.{Run}
 
 -- ---- by where runs begin and end
 
--- what the lists of runs are seen by
+-- the view of lists of runs
 record Extends (len k o : ℕ) (f l g m : ℕ → ℕ) : Type 0 where
   last : len ≡ k + 1
   first_same : (i : ℕ) → g i ≡ f i
@@ -70,7 +70,7 @@ extended_far around len k o f l g m e order before n (inr w) =
 
 -- ---- the last run goes on
 
--- what was lent and not written
+-- all that was lent and not written
 pub kept : (runs : List Run) (i : ℕ) (run : Run) → run ≡ get_or runs i run → set runs i run ≡ runs
 kept runs i run e = ap (λ (r : Run). set runs i r) e ∙ set-get_or runs i run
 

@@ -75,12 +75,12 @@ pub record IsFrameText (line : List ℕ) (v : FrameLine) : Type 0 where
   pub values : IsFrameLine v
   pub fields : fields_of line ≡ frame_fields v
 
--- what a line reads as
+-- the reading of a line
 abbrev pub IsReadOf : List ℕ → Result FrameLine FrameFault → Type 0
 IsReadOf line (Ok v) = IsFrameText line v
 IsReadOf line (Err fault) = IsFrameFault (fields_of line) fault
 
--- what the line of an entry shows of it
+-- the line of an entry, as it shows that
 abbrev pub shown : Entry → FrameLine
 shown e = record {
   stamp = record { 0 = e.frame.stamp };

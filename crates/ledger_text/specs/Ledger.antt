@@ -44,7 +44,7 @@ abbrev pub EndsAt : List ReadLine → LedgerStage → Option (List ℕ) → Opti
 EndsAt rs stage left None = (has_total stage ≡ true) × LeavesPart false left
 EndsAt rs stage left (Some stop) = (has_total stage ≡ false) × (stop.lines ≡ length rs) × LeavesPart stop.within_line left
 
--- what the lines of frames say, in their order
+-- all that the lines of frames say, in their order
 abbrev pub frames_in : LedgerLine → List FrameLine
 frames_in (lines.Frame v) = v ∷ []
 frames_in line = []

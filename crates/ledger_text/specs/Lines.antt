@@ -7,11 +7,11 @@ use Rattle.ledger_text.specs.declared.lines.LineFound.{LineFound}
 use Rattle.ledger_text.specs.declared.lines.LineFound.TheVariants.{Line, End, Unended, Long}
 use Rattle.ledger_text.specs.declared.bounds.TheConstants.{BLOCK_LEN}
 
--- what it reads from
+-- the source that it reads from
 abbrev pub line_source : {S : Type 0} → LineSource S → S
 line_source lines = lines.source
 
--- what was read ahead
+-- all that was read ahead
 abbrev pub unread_of : {S : Type 0} → LineSource S → List ℕ
 unread_of lines = slice_range lines.block.items lines.start lines.end
 
@@ -19,7 +19,7 @@ unread_of lines = slice_range lines.block.items lines.start lines.end
 abbrev pub lent_line : {S : Type 0} → LineSource S → List ℕ
 lent_line lines = slice_range lines.block.items lines.from lines.to
 
--- what is left of both, where the source exposes its bytes
+-- all that is left of both, where the source exposes its bytes
 abbrev pub lines_left : {S : Type 0} → (S → Option (List ℕ)) → LineSource S → Option (List ℕ)
 lines_left remaining lines = prepend_known (unread_of lines) (remaining lines.source)
 

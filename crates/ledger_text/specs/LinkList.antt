@@ -14,11 +14,11 @@ use Rattle.ledger_text.specs.declared.link_list.LinkSetFault.TheVariants.{Item, 
 abbrev pub is_dash : ℕ → Bool
 is_dash byte = byte == 45
 
--- what stands before the dash of a range; a number stands for the range from it to itself
+-- the text before the dash of a range; a number stands for the range from it to itself
 abbrev pub low_text : List ℕ → List ℕ
 low_text item = before_first is_dash item
 
--- what stands after the dash of a range
+-- the text after the dash of a range
 abbrev pub high_text : List ℕ → List ℕ
 high_text item = if nat_lt (position_or_len is_dash item) (length item) then after_first is_dash item else item
 
@@ -72,7 +72,7 @@ IsRight vl_table item =
     ((begins_with_digit item ≡ true) × IsRange item)
     ⊎ ((begins_with_digit item ≡ false) × (0 < length item) × IsKnown vl_table item)
 
--- what is wrong with an item
+-- the fault of an item
 abbrev pub IsItemFault : Option VlTable → List ℕ → ItemFault → Type 0
 IsItemFault vl_table item Empty = item ≡ []
 IsItemFault vl_table item Number = (begins_with_digit item ≡ true) × (IsNumber (low_text item) → IsNumber (high_text item) → ⊥)
@@ -90,7 +90,7 @@ IsLinkSetFault vl_table items (Item index why) =
     × ((k : ℕ) → k < index → HoldsAt (λ item. IsRight vl_table item) items k)
 IsLinkSetFault vl_table items Memory = ⊤
 
--- what a range's text says as two numbers, and what is wrong with it
+-- the two numbers of a range's text, and its fault
 abbrev pub IsRangeFault : List ℕ → ItemFault → Type 0
 IsRangeFault item Number = IsNumber (low_text item) → IsNumber (high_text item) → ⊥
 IsRangeFault item Order =

@@ -36,7 +36,7 @@ may_follow counts.Total next = false
 abbrev pub IsCounts : List ℕ → Counts → Type 0
 IsCounts line kind = counts_word kind ≡ first_field (fields_of line)
 
--- what a line at this place is
+-- the kind of a line at this place
 abbrev pub IsLineAt : LedgerStage → List ℕ → LedgerLine → Type 0
 IsLineAt stages.Head line lines.Head = line ≡ head_line
 IsLineAt stages.Frames line (lines.Frame v) = IsFrameText line v
@@ -44,14 +44,14 @@ IsLineAt stages.Frames line (lines.Counts kind) = IsCounts line kind
 IsLineAt (stages.Counts last) line (lines.Counts kind) = IsCounts line kind × (may_follow last kind ≡ true)
 IsLineAt _ line _ = ⊥
 
--- what is wrong with a line at this place, at which none is that stands there
+-- the fault of a line at this place, at which none is that stands there
 abbrev pub IsLineFaultAt : LedgerStage → List ℕ → LineFault → Type 0
 IsLineFaultAt stages.Head line faults.Head = line ≢ head_line
 IsLineFaultAt stages.Frames line (faults.Frame fault) = IsFrameFault (fields_of line) fault × ((kind : Counts) → IsCounts line kind → ⊥)
 IsLineFaultAt (stages.Counts last) line faults.Order = (kind : Counts) → IsCounts line kind → may_follow last kind ≡ true → ⊥
 IsLineFaultAt _ line _ = ⊥
 
--- what a line at this place reads as
+-- the reading of a line at this place
 abbrev pub IsLineRead : LedgerStage → List ℕ → Result LedgerLine LineFault → Type 0
 IsLineRead stage line (Ok read) = IsLineAt stage line read
 IsLineRead stage line (Err fault) = IsLineFaultAt stage line fault

@@ -14,7 +14,7 @@ use Rattle.ledger_text.specs.declared.fault.ReadFault.TheVariants as faults
 use Rattle.ledger_text.specs.declared.reader.FoundLine.{FoundLine}
 use Rattle.ledger_text.specs.declared.reader.FoundLine.TheVariants as found
 
--- what stands before the line after this one
+-- the stage before the line after this one
 abbrev pub stage_after : LedgerLine → LedgerStage
 stage_after lines.Head = stages.Frames
 stage_after (lines.Frame v) = stages.Frames
@@ -25,13 +25,13 @@ abbrev pub has_total : LedgerStage → Bool
 has_total (stages.Counts counts.Total) = true
 has_total _ = false
 
--- what the end is at this place, after so many lines: a ledger is complete after its line `total`
+-- the end at this place, after so many lines: a ledger is complete after its line `total`
 abbrev pub IsEnd : LedgerStage → ℕ → Bool → FoundLine → Type 0
 IsEnd stage number within found.Complete = has_total stage ≡ true
 IsEnd stage number within (found.Incomplete stop) = (has_total stage ≡ false) × (stop.lines ≡ number) × (stop.within_line ≡ within)
 IsEnd stage number within (found.Line _) = ⊥
 
--- what a last line without a newline is, after so many lines: the end within it, and where the line `total` stands before, a fault
+-- the reading of a last line without a newline, after so many lines: the end within it, and where the line `total` stands before, a fault
 abbrev pub IsUnended : LedgerStage → ℕ → Result FoundLine ReadFault → Type 0
 IsUnended stage number (Ok (found.Incomplete stop)) = (has_total stage ≡ false) × (stop.lines ≡ number) × (stop.within_line ≡ true)
 IsUnended stage number (Err (faults.Line n wrong.Newline)) = (has_total stage ≡ true) × (n ≡ number + 1)

@@ -16,7 +16,7 @@ use Rattle.ledger_text.specs.declared.reader.FoundLine.{FoundLine}
 use Rattle.ledger_text.specs.declared.reader.FoundLine.TheVariants as found
 use Rattle.ledger_text.specs.declared.reader.LedgerReader.{LedgerReader}
 
--- what it reads from
+-- the source that it reads from
 abbrev pub source_of : {S : Type 0} → LedgerReader S → S
 source_of reader = line_source reader.lines
 
@@ -40,7 +40,7 @@ reading_of remaining failures reader = record {
 abbrev pub Stays : Reading → Reading → Type 0
 Stays old new = (new.stage ≡ old.stage) × (new.number ≡ old.number) × (new.failures ≡ old.failures)
 
--- what is found last: a line without a newline, or nothing
+-- all that is found last: a line without a newline, or nothing
 abbrev pub last_of : Bool → LineFound
 last_of true = next.Unended
 last_of false = next.End
@@ -54,7 +54,7 @@ IsFound old new line found.Complete = (has_total old.stage ≡ true) × IsNextLi
 IsFound old new line (found.Incomplete stop) =
     (has_total old.stage ≡ false) × (stop.lines ≡ old.number) × IsNextLine old.left new.left line (last_of stop.within_line) × Stays old new
 
--- what is wrong with the next line of the bytes
+-- the fault of the next line of the bytes
 abbrev pub IsBadLine : Reading → Reading → List ℕ → LineFault → Type 0
 IsBadLine old new line wrong.Newline = (has_total old.stage ≡ true) × IsNextLine old.left new.left line next.Unended
 IsBadLine old new line wrong.Long = IsNextLine old.left new.left line next.Long

@@ -30,7 +30,7 @@ word_text (words.Policing policing) = policing_word policing
 word_text (words.Integrity integrity) = integrity_word integrity
 word_text (words.Redundancy redundancy) = redundancy_word redundancy
 
--- what became of a frame whose last word this is; the word itself where it is no last one
+-- the fate of a frame whose last word this is; the word itself where it is no last one
 abbrev pub group_text : Word → List ℕ
 group_text (words.Class class.Regular) = word_text (words.Class class.Regular)
 group_text (words.Class _) = codes "discarded"

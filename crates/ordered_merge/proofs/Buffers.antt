@@ -327,7 +327,7 @@ queue_skipped (suc count) (f ∷ queue) late n none b =
     let leads : leads late (f ∷ queue) ≡ false = ap (λ (l : List Frame). leads l (f ∷ queue)) none in
     queue_skipped count queue late n none (queue_buffer_popped (f ∷ queue) late n b leads)
 
--- ---- what is kept of each
+-- ---- all that is kept of each
 
 pub buffered_fit : (queue : List Frame) (late : List Frame) (n : ℕ) → IsBuffer queue late n → AllByRecursion (λ f. f.stamp < 2 ^ 63) (buffered queue late)
 buffered_fit queue late n b =
@@ -349,7 +349,7 @@ none_before f g l t h =
     each_weaker (λ h. IsBefore h g) (λ h. is_before f h ≡ false)
     (λ h e. by_test (is_before f h) (is_before f h ≡ false) (λ u. absurd (false≢true (sym t ∙ test_from_before f g (before_trans f h g (before_from_test f h u) e)))) (λ u. u)) l h
 
--- those before an index stand before the frame, and those from it on after it
+-- the frames before an index stand before the frame, and those from it on after it
 pub placed_at : (f : Frame) (l : List Frame) (k : ℕ) → AllByRecursion (λ g. is_before f g ≡ false) (take k l) → AllByRecursion (IsBefore f) (drop k l)
     → insert_frame f l ≡ take k l ++ f ∷ drop k l
 placed_at f l zero before after = insert_first f l after

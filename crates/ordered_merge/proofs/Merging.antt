@@ -100,7 +100,7 @@ fetched_all_b late x y (f ∷ fs) h numbered below =
     ∙ ap (λ (s : MergerState). fetched_all s fs)
     (fetched_b late x y f h.0 (subst (λ (n : ℕ). AllByRecursion (λ g. g.number < n) y.frames) (sym number) below))
 
--- what holds of a buffer after a push holds of it whatever the push returned
+-- a claim on a buffer after a push holds whatever the push returned
 pub kept_on : {E : Type 0} (r : Result (Unit {0}) E) (P : BufferState → Type 0) (old next new : BufferState) → OnOk r (new ≡ next) → OnErr r (new ≡ old) → P next → P old → P new
 kept_on (Ok x) P old next new e f p q = subst P (sym e) p
 kept_on (Err x) P old next new e f p q = subst P (sym f) q
@@ -208,7 +208,7 @@ take_min_take (suc m) (suc n) (x ∷ l) = ap (λ (k : ℕ). take k (x ∷ l)) (o
 pub length_cut : (s : MergerState) (most : ℕ) → length (cut_frames s most) ≡ min most (count_by (is_safe s) s.pending)
 length_cut s most = length-take most (safe_frames s) ∙ ap (min most) (length-filter (is_safe s) s.pending)
 
--- what a cut takes stands first
+-- the frames that a cut takes stand first
 pub cut_first : (s : MergerState) (most : ℕ) → IsRising s.pending → take (length (cut_frames s most)) s.pending ≡ cut_frames s most
 cut_first s most r =
     ap (λ (n : ℕ). take n s.pending) (length-take most (safe_frames s))

@@ -101,7 +101,7 @@ cond_both_test : (b : Bool) → (b ≡ true → b ≡ false) → (b ≡ false �
 cond_both_test true f g = f refl
 cond_both_test false f g = refl
 
--- what stands after f is not before what f is not before
+-- a frame after f is not before one that f is not before
 pub not_before_after : (f g h : Frame) → IsBefore f g → is_before f h ≡ false → is_before g h ≡ false
 not_before_after f g h e n =
     cond_both_test (is_before g h) (λ t. absurd (false≢true (sym n ∙ test_from_before f h (before_trans f g h e (before_from_test g h t))))) (λ t. t)

@@ -37,7 +37,7 @@ next_b s late fa fb out b f rest fol e h whole going =
     let n = next_of B s.late new_tap fb f rest h.0 s.b (subst (λ (k : ℕ). AreOfTap B k new_tap (fb ++ f ∷ rest) h.0) (sym e) of_tap) fol.b in
     (n.0, can_fetch_at B s f n.0 going n.1 n.2)
 
--- what a fetch leaves of the merger
+-- all that a fetch leaves of the merger
 pub ended_stays_a : (stamp : ℕ) (network : Network) (s : MergerState) → (change_tap (tap_after stamp) network s).a.ended ≡ s.a.ended
 ended_stays_a stamp A s = refl
 ended_stays_a stamp B s = refl

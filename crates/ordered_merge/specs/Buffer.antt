@@ -41,7 +41,7 @@ pub record IsBuffer (queue late : List Frame) (next : ℕ) : Type 0 where
   pub queue_kept : AllByRecursion (IsKept next) queue
   pub late_kept : AllByRecursion (IsKept next) late
 
--- what is left of a batch, some first frames of which were taken
+-- all that is left of a batch, some first frames of which were taken
 abbrev pub left_after : Result (Unit {0}) BatchState → List Frame
 left_after (Ok done) = []
 left_after (Err batch) = batch_frames batch

@@ -147,6 +147,6 @@ pub record Follows (s : MergerState) (fa fb out : List Frame) : Type 0 where
   pub order : IsOrder fa fb (out ++ s.pending)
   pub a : AreOfTap A s.late new_tap fa s.a
   pub b : AreOfTap B s.late new_tap fb s.b
-  -- what was cut lies below each frame that may still come
+  -- the frames that were cut lie below each that may still come
   pub below : (f : Frame) → MayCome s f → AllByRecursion (λ g. IsBefore g f) out
   pub safe : AllByRecursion (λ g. is_safe s g ≡ true) out

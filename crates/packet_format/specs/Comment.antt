@@ -15,7 +15,7 @@ use Rattle.vl_config.specs.Class.{link_with, class_word}
 use Rattle.vl_config.specs.Document.{VlTable}
 use Rattle.vl_config.specs.declared.class.Class.{Class}
 
--- ---- what became of the frame
+-- ---- the frame's fate
 
 abbrev pub redundancy_text : Redundancy → List ℕ
 redundancy_text redundancy = redundancy_word redundancy ++ codes " (redundancy)"

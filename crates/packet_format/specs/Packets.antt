@@ -21,7 +21,7 @@ abbrev pub format_of : PacketFormat → Format
 format_of formats.Pcap = Pcap
 format_of (formats.Pcapng interfaces names) = Pcapng interfaces (option_map (λ config. config.now) names)
 
--- what a capture begins with
+-- the head of a capture
 abbrev pub head_by : Format → List ℕ
 head_by Pcap = capture_header
 head_by (Pcapng interfaces names) = head_bytes interfaces

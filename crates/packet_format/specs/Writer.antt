@@ -9,7 +9,7 @@ use Rattle.pcap_io.specs.Device.{AppendsPrefix, CountsFailure}
 use Rattle.pcap_io.specs.Writer.{has_failed as output_failed, sink_of as sink_of_output}
 use Rattle.pcap_io.specs.declared.writer.CaptureWriter.{CaptureWriter}
 
--- what it writes to
+-- the sink that it writes to
 abbrev pub sink_of : {W : Type 0} → PacketWriter W → W
 sink_of writer = sink_of_output writer.output
 
@@ -21,7 +21,7 @@ has_failed writer = output_failed writer.output
 abbrev pub format_in : {W : Type 0} → PacketWriter W → Format
 format_in writer = format_of writer.format
 
--- what it writes to, whether it stands or gave its sink back
+-- the sink that it writes to, whether it stands or gave that back
 abbrev pub sink_after : {W : Type 0} → Result (PacketWriter W) W → W
 sink_after (Ok writer) = sink_of writer
 sink_after (Err sink) = sink
@@ -31,7 +31,7 @@ abbrev pub IsPcapng : Format → Type 0
 IsPcapng Pcap = ⊥
 IsPcapng (Pcapng interfaces names) = ⊤
 
--- what a pcapng file begins with stands in memory
+-- the head of a pcapng file stands in memory
 abbrev pub HoldsHead : Format → List ℕ → Type 0
 HoldsHead Pcap bytes = ⊤
 HoldsHead (Pcapng interfaces names) bytes = bytes ≡ head_by (Pcapng interfaces names)
@@ -43,7 +43,7 @@ Puts format (Ok done) old new before after bytes = Appends old new bytes × (aft
 Puts format (Err faults.Device) old new before after bytes = AppendsPrefix old new bytes × CountsFailure before after
 Puts format (Err faults.Memory) old new before after bytes = IsPcapng format × (new ≡ old) × (after ≡ before)
 
--- what a fault leaves: after one of the device no more packets are taken, and where there is no memory the output stands as it was
+-- the output after a fault: after one of the device no more packets are taken, and where there is no memory it stands as it was
 abbrev pub LeavesOutput : {W : Type 0} → PacketFault → CaptureWriter W → CaptureWriter W → Type 0
 LeavesOutput faults.Device old new = output_failed new ≡ true
 LeavesOutput faults.Memory old new = new ≡ old

@@ -74,7 +74,7 @@ pub known_bytes-end : (a : Option (List ℕ)) → IsAtEnd a → IsAtEnd (known_b
 known_bytes-end None p = tt
 known_bytes-end (Some xs) p = bytes_of-end xs p
 
--- what a source over a reader gives
+-- all that a source over a reader gives
 pub read_known : {E : Type 0} (a b : Option (List ℕ)) (r : Result ℕ E) (answer : Result ℕ DeviceFault) (buf : List ℕ)
     → answer ≡ read_answer r → ReadConsumes a b r buf → ReadConsumes (known_bytes a) (known_bytes b) answer buf
 read_known a b (Ok n) answer buf e p = rw e (known_bytes-consumed a b _ p.0, λ none room. known_bytes-end b (p.1 none room))

@@ -64,7 +64,7 @@ across u n k old copied buf got same size within fits =
     take-read u n k (copied ++ drop u buf) got (omega (arith, length-append copied (drop u buf), len)) fits
     ∙ ap (λ (l : List ℕ). l ++ take n got) (take_at copied (drop u buf) u len ∙ same)
 
--- what was read after the bytes that stand there
+-- all that was read after the bytes that stand there
 pub keeps_more : (a b : Option (List ℕ)) (old new bs : List ℕ) → new ≡ old ++ bs → Consumes a b bs → Keeps (prepend_known old a) (prepend_known new b)
 keeps_more None b old new bs e p = tt
 keeps_more (Some x) None old new bs e p = absurd p
@@ -76,7 +76,7 @@ kept_consumes (Some x) None c bs p q = absurd p
 kept_consumes (Some x) (Some y) None bs p q = absurd q
 kept_consumes (Some x) (Some y) (Some z) bs p q = sym p ∙ q
 
--- what is drawn from the start of the block, where all was kept
+-- all that is drawn from the start of the block, where all was kept
 pub draws : (a b : Option (List ℕ)) (start m e : ℕ) (xs : List ℕ) → start ≡ 0 → m ≤ e → e ≤ length xs
     → Keeps a (prepend_known (slice_range xs start e) b) → Consumes a (prepend_known (slice_range xs m e) b) (slice_range xs 0 m)
 draws a b start m e xs zero le fits kept =

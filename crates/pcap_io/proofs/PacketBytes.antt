@@ -122,7 +122,7 @@ header_bytes_read_back l head size fits =
     let first : take 4 head ++ drop 4 head ≡ head = take-append-drop 4 head in
     joined _ _ _ _ _ _ _ _ head _ _ a b c (d ∙ last) third second first
 
--- what is wrong with a packet's fields
+-- the fault of a packet's fields
 
 pub reason_none : (l : Layout) (late high : ℕ) (head : PacketHeader) → is_file_header head ≡ false → head.captured_len ≤ MAX_SNAPLEN → head.fraction < fractions_of l.precision
     → high ≤ stamp_at l head.seconds head.fraction + late → reason_at l late high head ≡ None
@@ -155,7 +155,7 @@ pub fractions_fit : (p : Precision) (n : ℕ) → n < fractions_of p → n < 2 ^
 fractions_fit Nanoseconds n h = omega arith
 fractions_fit Microseconds n h = omega arith
 
--- ---- what a packet is to a reader
+-- ---- a packet as a reader sees it
 
 -- the fields of the first packet
 pub header-packet_bytes : (l : Layout) (r : Packet) (more : List ℕ) → r.seconds < 2 ^ 32 → r.fraction < 2 ^ 32 → length r.bytes < 2 ^ 32 → r.original_len < 2 ^ 32

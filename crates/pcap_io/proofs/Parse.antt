@@ -127,7 +127,7 @@ IsBytes-take n bytes fits i = elim (cases_lt i n) [
   | inr past ↦ subst (λ (x : ℕ). x < 256) (sym (get_or_past (take n bytes) i 0 (omega (arith, length-take n bytes)))) (lit< tt)
 ]
 
--- what holds where nothing ends
+-- the state where nothing ends
 record Standing (l : Layout) (most late n high : ℕ) (bytes : List ℕ) : Type 0 where
   enough : 16 ≤ length bytes
   few : n ≢ most

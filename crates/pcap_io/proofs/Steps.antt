@@ -55,7 +55,7 @@ cut_at_head p told head body size few fine short =
     ap (λ (h : List ℕ). nat_lt (length rest - 16) (header_fields p.layout h).captured_len) front ∙ lt-ltb (length rest - 16) _ (omega (arith, size, len, short)) in
     rw (some, other, long, reads, lacks) refl
 
--- what is told says nothing of bytes that are there
+-- the word of a source says nothing of bytes that are there
 same_told : (p : Position) (told other : Told) (rest : List ℕ) → 0 < length rest → ending_here p told rest ≡ ending_here p other rest
 same_told p told other rest some =
     let test : nat_eq (length rest) 0 ≡ false = ne_eqb (length rest) 0 (λ e. absurd (omega (arith, some, e))) in
@@ -67,7 +67,7 @@ end_from p told value head ys zero e size tells found = subst (λ (t : Told). en
 end_from p told value head ys (suc n) e size tells found =
     same_told p told value (take (suc n) head ++ ys) (omega (arith, length-append (take (suc n) head) ys, length-take (suc n) head, size)) ∙ found
 
--- what the first reads found is what stands there
+-- the first reads found the bytes that stand there
 pub start_from : (p : Position) (told value : Told) (before after : Option (List ℕ)) (head : List ℕ) (came : ℕ) (start : Start) → length head ≡ 16 → IsBytes head
     → Consumes before after (take came head) → (came < 16 → IsAtEnd after) → (came ≡ 0 → IfSome before (λ known. Tells after value told))
     → IsStartOf p value head came start → IsStart p told before after start
@@ -91,7 +91,7 @@ pub stays_behind : (unread : List ℕ) (left : Option (List ℕ)) (old new : Tol
 stays_behind unread None old new stays = tt
 stays_behind unread (Some ys) old new stays = stays
 
--- what a source tells at the end of what it gave is what it told before
+-- a source tells at the end of what it gave as it told before
 pub tells_still : (before after : Option (List ℕ)) (value old new : Told) (bytes : List ℕ) → Consumes before after bytes → StaysTold before old new → Tells after value new
     → IfSome before (λ known. Tells after value old)
 tells_still None after value old new bytes gone stays tells = tt
@@ -145,7 +145,7 @@ takes_packet p before mid after fields (head, t, same) (gone, few, rest) =
     let held = ap (λ (h : PacketHeader). h.captured_len) same in
     (head ++ gone, omega (arith, length-append head gone, t.size, held, few, fine.few), Consumes-trans before mid after head gone t.gone rest)
 
--- what the first reads leave
+-- all that the first reads leave
 pub start_leaves : (before after : Option (List ℕ)) (came : ℕ) (start : Start) → (came < 16 → IsAtEnd after) → TakesAtMost 16 before after → EndsShort came start
     → StartLeaves before after start
 start_leaves before after came (starts.Header head) end taken short = tt

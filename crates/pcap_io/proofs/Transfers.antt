@@ -40,7 +40,7 @@ pub write_more : (a b c : Option (List ℕ)) (done n : ℕ) (bytes : List ℕ) �
 write_more a b c done n bytes within first next =
     subst (Appends a c) (sym (take-front done n bytes within)) (Appends-trans a b c _ _ first next)
 
--- what a source over memory gives is gone from its front
+-- a source over memory loses at its front what it gives
 pub given : (all buf got : List ℕ) (at p : ℕ) → got ≡ take p (drop at all) → at + p ≤ length all
     → drop at all ≡ take p (got ++ drop p buf) ++ drop (at + p) all
 given all buf got at p e within =
@@ -60,7 +60,7 @@ which false = inr refl
 same_ok : (a b : ℕ) → ◌≡◌ {A = Result ℕ DeviceFault} (Ok a) (Ok b) → a ≡ b
 same_ok a b e = cc
 
--- what a device over memory passes: none only where none is asked for
+-- the bytes that a device over memory passes: none only where none is asked for
 pub answered : (c : ScriptState) (asked p : ℕ) → answer_of c asked ≡ Ok p → (p ≤ asked) × (p ≡ 0 → asked ≡ 0)
 answered c asked p e = elim (which (fails c)) [
   | inl t ↦ let no = rw t at e in cc
@@ -113,7 +113,7 @@ writes_second (Err x) (Ok z) y a b c m n o first second all r_ok e w v = record 
   fault = v.fault ∙ ap (λ (k : ℕ). min (k + 1) (2 ^ 64 - 1)) w.no_failure;
 }
 
--- ---- what is told
+-- ---- all that is told
 
 -- a source that gave bytes still exposes them
 pub stays_consumed : (a b : Option (List ℕ)) (x y z : Told) (bytes : List ℕ) → Consumes a b bytes → StaysTold a x y → StaysTold b y z → StaysTold a x z

@@ -9,7 +9,7 @@ use Rattle.pcap_io.specs.declared.block.DrawnPart.{DrawnPart}
 use Rattle.pcap_io.specs.declared.item.ReadFault.{ReadFault}
 use Rattle.pcap_io.specs.declared.item.ReadFault.TheVariants as faults
 
--- what it reads from
+-- the source that it reads from
 abbrev pub block_source : {S : Type 0} → BlockSource S → S
 block_source b = b.source
 
@@ -25,15 +25,15 @@ part_bytes part = slice_range (block_bytes part.block) part.from part.to
 abbrev pub IsShareOf : List ℕ → List ℕ → Type 0
 IsShareOf items bytes = (bytes ≡ []) ⊎ (bytes ≡ items)
 
--- what was read ahead
+-- all that was read ahead
 abbrev pub unread_bytes : {S : Type 0} → BlockSource S → List ℕ
 unread_bytes b = slice_range (items_of b.block) b.start b.end
 
--- what the last draw gave
+-- all that the last draw gave
 abbrev pub drawn_bytes : {S : Type 0} → BlockSource S → List ℕ
 drawn_bytes b = slice_range (items_of b.block) b.from b.start
 
--- what is left of both, where the source exposes its bytes
+-- all that is left of both, where the source exposes its bytes
 abbrev pub block_remaining : {S : Type 0} → (S → Option (List ℕ)) → BlockSource S → Option (List ℕ)
 block_remaining remaining b = prepend_known (unread_bytes b) (remaining b.source)
 

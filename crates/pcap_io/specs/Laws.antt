@@ -50,7 +50,7 @@ abbrev pub magic_of : Precision → ℕ
 magic_of Nanoseconds = 0xa1b23c4d
 magic_of Microseconds = 0xa1b2c3d4
 
--- what a pcap file begins with: its magic number, version 2.4, and the fields thiszone and sigfigs, which are 0
+-- the start of a pcap file: its magic number, version 2.4, and the fields thiszone and sigfigs, which are 0
 abbrev pub file_start : Layout → List ℕ
 file_start file = bytes_in file.order 4 (magic_of file.precision) ++ (bytes_in file.order 2 2 ++ (bytes_in file.order 2 4 ++ bytes_in file.order 8 0))
 

@@ -58,7 +58,7 @@ abbrev pub found_item : Frame → Found → Item
 found_item f founds.Frame = items.Frame f
 found_item f (founds.End e) = items.End e
 
--- ---- what a call of a reader does
+-- ---- all that a call of a reader does
 
 -- The frame is that of a good packet, which leaves the bytes.
 pub record TakesFrame (p : Position) (before after : Option (List ℕ)) (f : Frame) : Type 0 where
@@ -73,7 +73,7 @@ pub record TakesFrame (p : Position) (before after : Option (List ℕ)) (f : Fra
 abbrev pub TakesAPacket : Option (List ℕ) → Option (List ℕ) → Type 0
 TakesAPacket before after = TakesAtMost MAX_PACKET_LEN before after
 
--- what a reader that stands here gives, and what it takes from the bytes left
+-- all that a reader that stands here gives, and what it takes from the bytes left
 abbrev pub IsNext : Position → Told → Option (List ℕ) → Option (List ℕ) → Item → Type 0
 IsNext p told before after (items.Frame f) = TakesFrame p before after f
 IsNext p told before after (items.End e) = IfSome before (λ bytes. ending_here p told bytes ≡ Some e)
@@ -84,7 +84,7 @@ EndLeaves before after (Clean n) = IsAtEnd after
 EndLeaves before after (Cut n) = IsAtEnd after
 EndLeaves before after (Bad n reason) = TakesAtMost PACKET_HEADER_LEN before after
 
--- what an item says of the bytes left, where it is an ending
+-- all that an item says of the bytes left, where it is an ending
 abbrev pub ItemLeaves : Option (List ℕ) → Option (List ℕ) → Item → Type 0
 ItemLeaves before after (items.Frame f) = ⊤
 ItemLeaves before after (items.End e) = EndLeaves before after e
@@ -164,7 +164,7 @@ pub record Holds (p : Position) (told : Told) (bytes : List ℕ) (frames : List 
   pub parse : Parses p.layout p.most p.late told p.count p.high bytes packets rest ending
   pub same : frames ≡ frames_of p.network p.layout p.count packets
 
--- ---- what the parts of a reader find
+-- ---- all that the parts of a reader find
 
 -- 16 bytes, of which `came` are those left, begin a packet, or the ending is found in them
 abbrev pub IsStartOf : Position → Told → List ℕ → ℕ → Start → Type 0
@@ -202,7 +202,7 @@ abbrev pub Opens : Told → Option (List ℕ) → Option (List ℕ) → Layout �
 Opens told before after layout =
     IfSome before (λ bytes. (header_of told bytes ≡ Ok layout) × (after ≡ Some (drop FILE_HEADER_LEN bytes)))
 
--- what a refusal says of the bytes, and of how often the source has failed
+-- all that a refusal says of the bytes, and of how often the source has failed
 abbrev pub IsOpenFault : Told → Option (List ℕ) → ℕ → ℕ → OpenFault → Type 0
 IsOpenFault told before old new (openings.Header f) = IfSome before (λ bytes. header_of told bytes ≡ Err f) × (new ≡ old)
 IsOpenFault told before old new openings.Device = CountsFailure old new

@@ -11,7 +11,7 @@ use Rattle.pcap_io.specs.declared.told.Told.{Told}
 abbrev pub position_of : {S : Type 0} → TapReader S → Position
 position_of reader = reader.position
 
--- what it reads from
+-- the source that it reads from
 abbrev pub source_of : {S : Type 0} → TapReader S → S
 source_of reader = block_source reader.input
 
@@ -19,11 +19,11 @@ source_of reader = block_source reader.input
 abbrev pub block_of : {S : Type 0} → TapReader S → List ℕ
 block_of reader = block_items reader.input
 
--- what it read ahead of its position, at most 262144 bytes
+-- all that it read ahead of its position, at most 262144 bytes
 abbrev pub unread_of : {S : Type 0} → TapReader S → List ℕ
 unread_of reader = unread_bytes reader.input
 
--- what is left for it: the bytes that it read ahead, and then those of its source, where that exposes them
+-- all that is left for it: the bytes that it read ahead, and then those of its source, where that exposes them
 abbrev pub remaining_of : {S : Type 0} → (S → Option (List ℕ)) → TapReader S → Option (List ℕ)
 remaining_of remaining reader = block_remaining remaining reader.input
 
@@ -31,7 +31,7 @@ remaining_of remaining reader = block_remaining remaining reader.input
 abbrev pub lent_of : {S : Type 0} → TapReader S → Frame
 lent_of reader = frame_with reader.position.network reader.number reader.stamp reader.whole (drawn_bytes reader.input)
 
--- what stands of it, for a source that exposes its bytes, its failures and what it tells so
+-- its state, for a source that exposes its bytes, its failures and what it tells so
 abbrev pub reading_of : {S : Type 0} → (S → Option (List ℕ)) → (S → ℕ) → (S → Told) → TapReader S → Reading
 reading_of remaining failures told reader = record {
   position = position_of reader;

@@ -94,7 +94,7 @@ header_fields layout bytes = record {
   original_len = number_in layout.order 4 (drop 12 bytes);
 }
 
--- what is wrong with a header: the first reason that fits
+-- the fault of a header: the first reason that fits
 abbrev pub reason_at : Layout → ℕ → ℕ → PacketHeader → Option BadReason
 reason_at layout late high head =
     if is_file_header head then Some FileHeader

@@ -21,7 +21,7 @@ fails c = c.left == 0 || is_miss c.miss || c.failures == 2 ^ 64 - 1
 abbrev pub passed_count : ScriptState → ℕ → ℕ
 passed_count c asked = if fails c then 0 else min asked (min c.left (max c.piece 1))
 
--- what the next call answers
+-- the answer of the next call
 abbrev pub answer_of : ScriptState → ℕ → Result ℕ DeviceFault
 answer_of c asked = if fails c then Err (record {}) else Ok (passed_count c asked)
 

@@ -15,17 +15,17 @@ told_ending (NoHeader fault) most n = endings.Clean n
 told_ending Cut most n = if n == most then endings.Bad n TooMany else endings.Cut n
 told_ending (Bad reason) most n = if n == most then endings.Bad n TooMany else endings.Bad n reason
 
--- what is wrong where they end before a file header does
+-- the fault where they end before a file header does
 abbrev pub told_fault : Told → HeaderFault
 told_fault Nothing = Short
 told_fault (NoHeader fault) = fault
 told_fault Cut = Short
 told_fault (Bad reason) = Short
 
--- what a source tells is this, where it exposes its bytes
+-- a source tells this, where it exposes its bytes
 abbrev pub Tells : Option (List ℕ) → Told → Told → Type 0
 Tells left value told = IfSome left (λ bytes. value ≡ told)
 
--- what it tells stays, where it exposes its bytes
+-- the word of a source stays, where it exposes its bytes
 abbrev pub StaysTold : Option (List ℕ) → Told → Told → Type 0
 StaysTold before old new = IfSome before (λ bytes. new ≡ old)

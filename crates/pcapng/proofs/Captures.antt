@@ -86,7 +86,7 @@ first_is interfaces p k read more can order is =
 
 -- ---- the packets of one interface
 
--- what is given for packets
+-- all that is given for packets
 abbrev all_given : List Written → Given
 all_given ps = record { bytes = flat_map given_packet ps; told = Nothing }
 
@@ -112,7 +112,7 @@ one_given some (p ∷ ps) can =
     (takes One p k can.0 (takes_one some) (sym (stamps 0 p.frame.stamp None can.0.fits.stamp_fits)))
     ∙ ap (followed (given_packet p)) (one_given true ps can.1)
 
--- ---- those of a network
+-- ---- the frames of a network
 
 known_both : ℕ → Option ℕ → Known
 known_both number taken = record {

@@ -216,7 +216,7 @@ slice_slice s n a b xs ordered within =
     ∙ (take-take (b - a) (n - a) (drop a (drop s xs)) (omega arith)
     ∙ (ap (take (b - a)) (drop-drop a s xs) ∙ ap (λ (m : ℕ). take m (drop (s + a) xs)) (sym part)))
 
--- what is given for a packet that is taken
+-- all that is given for a packet that is taken
 pub given_packet : (items header : List ℕ) (fields : PacketFields) (s n time from to : ℕ) → 28 + fields.captured_len ≤ n
     → take 16 header ≡ packet_header_bytes time fields.captured_len fields.original_len → from ≡ s + 28 → to ≡ s + (28 + fields.captured_len)
     → slice_range header 0 16 ++ slice_range items from to ≡ packet_bytes fields (slice_range items s (s + n)) time
@@ -303,7 +303,7 @@ ends_part c start t some e part =
     let cuts : given_at k u ≡ only tolds.Cut = ap (given_at k) (sym all) ∙ given_part k u [] start some e less in
     ends_within c stages.Blocks t (rw there cuts)
 
--- what stands there starts no block
+-- the bytes there start no block
 pub starts_none : (c : Converter) (fault : StartFault) (l : List ℕ) → c.stage ≡ stages.Blocks → pending_of c ≡ [] → 12 ≤ length (unread_of c)
     → start_of c.section.order (unread_of c) ≡ Err fault → only (tolds.Bad (start_reason fault)) ≡ handed c l
 starts_none c fault l t p some e = sym (at_stage c stages.Blocks l t p ∙ given_wrong (known_of c.section) (unread_of c) l fault some e)

@@ -163,7 +163,7 @@ blocks_at order (x ∷ xs) some =
     (blocks_from-same (start_of order (x ∷ xs)) (x ∷ xs) (blocks_within (length xs)) blocks_of (long_start order (x ∷ xs)) some
     (λ o rest fewer. more_blocks (length xs) (length rest) o rest (omega arith) (omega arith)))
 
--- ---- what is given
+-- ---- all that is given
 
 -- too few bytes for a block's start
 pub given_few : (k : Known) (bytes : List ℕ) → length bytes < 12 → given_at k bytes ≡ (if length bytes == 0 then end_given k else only tolds.Cut)
@@ -179,7 +179,7 @@ given_from_start k u l r some e =
     ap (given_for k) (blocks_at k.order (u ++ l) (omega (arith, length-append u l))
     ∙ ap (λ (s : Result BlockStart StartFault). blocks_from s (u ++ l) blocks_of) (start_of-append k.order u l some ∙ e))
 
--- what stands there starts no block
+-- the bytes there start no block
 pub given_wrong : (k : Known) (u l : List ℕ) (fault : StartFault) → 12 ≤ length u → start_of k.order u ≡ Err fault
     → given_at k (u ++ l) ≡ only (tolds.Bad (start_reason fault))
 given_wrong k u l fault some e = given_from_start k u l (Err fault) some e
@@ -196,7 +196,7 @@ given_whole k u l start some e whole = given_from_start k u l (Ok start) some e 
 
 -- ---- the first section header
 
--- what is told of a section header stays, whatever follows
+-- the word on a section header stays, whatever follows
 abbrev IsSettled : FirstSection → Type 0
 IsSettled (firsts.Needs needed) = ⊥
 IsSettled (firsts.Wrong fault) = Unit {0}

@@ -70,7 +70,7 @@ file_header : IsBytes capture_header
 unfolding capture_header
 file_header = are_bytes-true capture_header refl
 
--- ---- what a block gives
+-- ---- all that a block gives
 
 none_given : (k : Known) (r : Result (Unit {0}) BadReason) (found : Read) → read_with [] k r ≡ Ok found → IsBytes found.given
 none_given k (Err told) found e = cc
@@ -154,7 +154,7 @@ within (suc n) order bytes fits =
     (if_either (nat_lt (length bytes) 12) cut begun tt
     (from_start (start_of order bytes) bytes (blocks_within n) fits (λ o more p. within n o more p)))
 
--- ---- what is given
+-- ---- all that is given
 
 end : (b : Bool) (x y : Given) → IsBytes x.bytes → IsBytes y.bytes → IsBytes (if b then x else y).bytes
 end true x y p q = p

@@ -37,7 +37,7 @@ none_first (x ∷ xs) ys e = cc
 keeps_equal : (x y : Given) → y ≡ x → KeepsGiven (Some x) (Some y)
 keeps_equal x y e = (ap (λ (g : Given). g.bytes) e, ap (λ (g : Given). g.told) e)
 
--- what is given next stays, what is known, and the unread bytes with those of the source
+-- the next bytes stay, and the knowledge, and the unread bytes with those of the source
 pub keeps_at : (p q : List ℕ) (st to : Reached) (k m : Known) (u v : List ℕ) (r s : Option (List ℕ)) → q ≡ p → to ≡ st → m ≡ k
     → Keeps (prepend_known u r) (prepend_known v s) → KeepsGiven (known_at p st k u r) (known_at q to m v s)
 keeps_at p q st to k m u v None s e t f h = (tt, tt)
@@ -60,7 +60,7 @@ gives_known c d front (Some x) p t u f =
       ap (λ (g : Given). g.told) same,
     )
 
--- what is given stays, for a source that stays
+-- the given bytes stay, for a source that stays
 pub hands_known : (c d : Converter) (r : Option (List ℕ)) → ((left : List ℕ) → handed d left ≡ handed c left) → KeepsGiven (handed_known c r) (handed_known d r)
 hands_known c d None h = (tt, tt)
 hands_known c d (Some x) h = keeps_equal (handed c x) (handed d x) (h x)
@@ -133,7 +133,7 @@ passes c a b n buf p u t h =
       λ none room. subst (λ (o : Option (List ℕ)). IsAtEnd (known_bytes o)) (sym two) (known_bytes-end b (h.1 none room)),
     )
 
--- ---- what is given
+-- ---- all that is given
 
 pub drop_slice : (n s e : ℕ) (xs : List ℕ) → s + n ≤ e → e ≤ length xs → drop n (slice_range xs s e) ≡ slice_range xs (s + n) e
 drop_slice n s e xs le within =
@@ -197,7 +197,7 @@ pub gives_source : (c d : Converter) (front : List ℕ) (r : Option (List ℕ)) 
     → unread_of d ≡ unread_of c → d.section ≡ c.section → Consumes (known_bytes (bytes_in (handed_known c r))) (known_bytes (bytes_in (handed_known d r))) front
 gives_source c d front r p t u f = known_bytes-consumed (bytes_in (handed_known c r)) (bytes_in (handed_known d r)) front (gives_known c d front r p t u f).0
 
--- what is told stays, where its bytes are all bytes
+-- the word stays, where its bytes are all bytes
 pub stays_known : (left : Option (List ℕ)) (old new : Told) → StaysTold left old new → StaysTold (known_bytes left) old new
 stays_known None old new stays = tt
 stays_known (Some xs) old new stays = elim (which (are_bytes xs)) [

@@ -32,7 +32,7 @@ step order bytes =
     ∙ (more (length bytes) order bytes
     ∙ ap (options_from order bytes) (fuel (length bytes) (length rest) order rest (omega (arith, length-drop (option_len order bytes) bytes)) (omega arith)))
 
--- ---- what stands at the front
+-- ---- all that stands at the front
 
 pub none_left : (order : ByteOrder) (bytes : List ℕ) → length bytes ≡ 0 → options_of order bytes ≡ ended
 none_left order bytes e = step order bytes ∙ rw (eq-eqb (length bytes) 0 e) refl

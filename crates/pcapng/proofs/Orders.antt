@@ -19,7 +19,7 @@ read_with-known (Ok done) given k found e =
     let same : record { given = given; known = k } ≡ found = cc in
     sym (ap (λ (f : Read). f.known) same)
 
--- what is read where no test fails
+-- the reading where no test fails
 pub unless_failed : (b : Bool) (reason : BadReason) (r : Result Read BadReason) (found : Read) → (if b then Err reason else r) ≡ Ok found
     → (b ≡ false) × (r ≡ Ok found)
 unless_failed true reason r found e = cc

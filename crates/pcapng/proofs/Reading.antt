@@ -53,7 +53,7 @@ use Rattle.pcapng.specs.declared.section.Role.TheVariants as roles
 texts : List Packet → List ℕ
 texts packets = flat_map (packet_bytes capture_layout) packets
 
--- ---- what a block gives is its packet
+-- ---- a block gives its packet
 
 with_given : (given : List ℕ) (k : Known) (r : Result (Unit {0}) BadReason) (found : Read) → read_with given k r ≡ Ok found → found.given ≡ given
 with_given given k (Err told) found e = cc
@@ -72,7 +72,7 @@ captured-fits o captured bytes given k found e = elim (cases_lt (length bytes) (
   | inr long ↦ omega (arith, long)
 ]
 
--- what is given for a packet, as a recording has it
+-- all that is given for a packet, as a recording has it
 given_text : (fields : PacketFields) (bytes : List ℕ) (time : ℕ) → 28 + fields.captured_len ≤ length bytes → file.packet_bytes fields bytes time ≡ texts (packet_at fields bytes time ∷ [])
 unfolding texts
 given_text fields bytes time within =
@@ -123,7 +123,7 @@ read-text : (k : Known) (start : BlockStart) (bytes : List ℕ) (found : Read) �
 unfolding read_of
 read-text k start bytes found e = as-text start.kind k start.order bytes found e
 
--- ---- what is given for blocks
+-- ---- all that is given for blocks
 
 after-text : (r : Result Read BadReason) (own : List Packet) (packets : Known → List Packet) (given : Known → Given)
     → ((found : Read) → r ≡ Ok found → found.given ≡ texts own) → ((k : Known) → (given k).bytes ≡ texts (packets k))
@@ -150,7 +150,7 @@ given-text (block start bytes rest) k =
 
 -- ---- good packets
 
--- what a header of a recording can say of a packet
+-- all that a header of a recording can say of a packet
 Fits : Packet → Type 0
 Fits p = (length p.bytes ≤ MAX_SNAPLEN) × (p.seconds < 2 ^ 32) × (p.original_len < 2 ^ 32) × (p.fraction < 1000000000)
 
@@ -279,7 +279,7 @@ file_parses k bytes most late packets fits e readable =
           ∙ ap Some (blocks-told most n (ne_eqb n most (λ same. absurd (omega (arith, readable.2, same)))) blocks k);
     }
 
--- what is given for a file whose first section header is judged
+-- all that is given for a file whose first section header is judged
 pub given_opened : (choice : Choice) (bytes : List ℕ) (first : FirstSection) → IsPcapng bytes → first_of bytes ≡ first
     → given_of choice bytes ≡ opened first (unknown choice Little) bytes
 given_opened choice bytes first pcapng e =

@@ -50,7 +50,7 @@ fields_read_back interfaces p more can =
           (little_bytes 4 (12 + length (packet_body interfaces f p.keep p.comment))) more (length kept) refl;
     }
 
--- what follows the packet's bytes
+-- all that follows the packet's bytes
 past_bytes : (interfaces : Interfaces) (p : Written) (more : List ℕ) → IsWritable p
     → drop (options_at p.keep) (written_block interfaces p ++ more)
     ≡ packet_options p.comment ++ (little_bytes 4 (12 + length (packet_body interfaces p.frame p.keep p.comment)) ++ more)

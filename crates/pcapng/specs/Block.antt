@@ -23,7 +23,7 @@ use Rattle.pcapng.specs.declared.block.TheConstants.{MAX_BLOCK_LEN}
 
 -- ---- the start of a block
 
--- what a block of a type is
+-- the kind of a block, by its type
 abbrev pub kind_of : ℕ → BlockKind
 kind_of code =
     if code == 0x0a0d0d0a then kinds.Section
@@ -74,12 +74,12 @@ start_as kind order bytes = start_in kind bytes (order_of kind order bytes)
 unfoldable pub start_of : ByteOrder → List ℕ → Result BlockStart StartFault
 start_of order bytes = start_as (kind_of (number_in order 4 bytes)) order bytes
 
--- what a wrong start is within a recording
+-- the reason of a wrong start within a recording
 abbrev pub start_reason : StartFault → BadReason
 start_reason starts.Magic = reasons.Section
 start_reason starts.Length = reasons.BlockLength
 
--- what it is in the first section header
+-- the fault of one in the first section header
 abbrev pub start_header_fault : StartFault → HeaderFault
 start_header_fault starts.Magic = headers.ByteOrderMagic
 start_header_fault starts.Length = headers.SectionLength
@@ -99,25 +99,25 @@ lengths_agree order block = number_in order 4 (drop (length block - 4) block) ==
 abbrev pub section_options : ByteOrder → List ℕ → Options
 section_options order block = options_of order (slice_range block 24 (length block - 4))
 
--- what is wrong with a whole section header: the major version is 1
+-- the fault of a whole section header: the major version is 1
 abbrev pub section_fault : ByteOrder → List ℕ → Option HeaderFault
 section_fault order block =
     if number_in order 2 (drop 12 block) == 1
     then (if fit (section_options order block) then (if lengths_agree order block then None else Some headers.SectionLengthsDiffer) else Some headers.SectionOption)
     else Some headers.SectionVersion
 
--- what a fault of a later section header is
+-- the reason of a fault of a later section header
 abbrev pub later_reason : HeaderFault → BadReason
 later_reason headers.SectionLengthsDiffer = reasons.BlockLengthsDiffer
 later_reason headers.SectionOption = reasons.BlockBounds
 later_reason fault = reasons.Section
 
--- what is wrong with options up to a block's end, or with the length there
+-- the fault of options up to a block's end, or of the length there
 abbrev pub end_fault : ByteOrder → List ℕ → Options → Option BadReason
 end_fault order block options =
     if fit options then (if lengths_agree order block then None else Some reasons.BlockLengthsDiffer) else Some reasons.BlockBounds
 
--- what is wrong with the end of a whole interface description
+-- the fault of the end of a whole interface description
 abbrev pub interface_fault : ByteOrder → List ℕ → Option BadReason
 interface_fault order block = end_fault order block (interface_options order block)
 
@@ -141,7 +141,7 @@ fields_of order kind block = record {
 abbrev pub packet_options : ByteOrder → ℕ → List ℕ → Options
 packet_options order captured block = options_of order (slice_range block (28 + padded_len captured) (length block - 4))
 
--- what is wrong with a whole packet from its captured bytes on
+-- the fault of a whole packet from its captured bytes on
 abbrev pub packet_fault : ByteOrder → ℕ → List ℕ → Option BadReason
 packet_fault order captured block =
     if nat_lt (length block) (32 + padded_len captured) then Some reasons.BlockBounds else end_fault order block (packet_options order captured block)

@@ -30,7 +30,7 @@ option_bytes code value = little_bytes 2 code ++ (little_bytes 2 (length value) 
 abbrev pub end_of_options : List ℕ
 end_of_options = option_bytes 0 []
 
--- ---- what a capture begins with
+-- ---- the head of a capture
 
 -- the section header: the byte-order magic, version 1.0, and the section's length, which is unknown, -1
 unfoldable pub section_header : List ℕ

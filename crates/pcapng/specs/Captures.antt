@@ -37,7 +37,7 @@ NetworkIsGiven = (number : ℕ) (packets : List Written) → number < 2 → AreW
 
 -- ---- the frames that are read of it
 
--- those of packets, with the bytes that are kept, numbered from n
+-- the frames of packets, with the bytes that are kept, numbered from n
 abbrev pub kept_frames : Network → ℕ → List Written → List Frame
 kept_frames network n [] = []
 kept_frames network n (p ∷ ps) = frame_with network n p.frame.stamp p.frame.whole (take p.keep p.frame.bytes) ∷ kept_frames network (n + 1) ps

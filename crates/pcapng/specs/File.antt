@@ -33,12 +33,12 @@ pub data Blocks : Type 0 where
   ended : Blocks
   -- they end within a block
   cut : Blocks
-  -- what stands there starts no block that is read
+  -- the bytes there start no block that is read
   unreadable : StartFault → Blocks
   -- a block of this start, all its bytes, and the blocks after it
   block : BlockStart → List ℕ → Blocks → Blocks
 
--- those of bytes that start so, where `rest` gives those after a whole block
+-- the blocks of bytes that start so, where `rest` gives those after a whole block
 abbrev pub blocks_from : Result BlockStart StartFault → List ℕ → (ByteOrder → List ℕ → Blocks) → Blocks
 blocks_from (Err fault) bytes rest = unreadable fault
 blocks_from (Ok start) bytes rest =
@@ -56,19 +56,19 @@ blocks_within (suc n) order bytes =
 unfoldable pub blocks_of : ByteOrder → List ℕ → Blocks
 blocks_of order bytes = blocks_within (length bytes) order bytes
 
--- ---- what a block says
+-- ---- all that a block says
 
 -- The yield of a block, and what is known after it.
 pub record Read : Type 0 where
   pub given : List ℕ
   pub known : Known
 
--- what a block says that gives these bytes, or what is wrong with it
+-- the word of a block that gives these bytes, or its fault
 abbrev pub read_with : List ℕ → Known → Result (Unit {0}) BadReason → Result Read BadReason
 read_with given k (Err reason) = Err reason
 read_with given k (Ok done) = Ok (record { given = given; known = k })
 
--- what one says that gives none
+-- the word of one that gives none
 abbrev pub passed : Known → Result (Unit {0}) BadReason → Result Read BadReason
 passed k fault = read_with [] k fault
 
@@ -95,7 +95,7 @@ numbered_read k order bytes (Ok number) = described_read k (interface_of order n
 abbrev pub interface_read : Known → ByteOrder → List ℕ → Result Read BadReason
 interface_read k order bytes = numbered_read k order bytes (next_number (length k.interfaces))
 
--- what is given for a packet of this time: its header, and its captured bytes
+-- all that is given for a packet of this time: its header, and its captured bytes
 abbrev pub packet_bytes : PacketFields → List ℕ → ℕ → List ℕ
 packet_bytes fields bytes time =
     packet_header_bytes time fields.captured_len fields.original_len ++ slice_range bytes 28 (28 + fields.captured_len)
@@ -135,13 +135,13 @@ read_as kinds.Other k order bytes = other_read k order bytes
 unfoldable pub read_of : Known → BlockStart → List ℕ → Result Read BadReason
 read_of k start bytes = read_as start.kind k start.order bytes
 
--- ---- what a file stands for
+-- ---- all that a file stands for
 
 -- after the last block: where an interface was chosen, one was described
 abbrev pub end_given : Known → Given
 end_given k = if k.described then only tolds.Nothing else only (tolds.Bad reasons.NoSuchInterface)
 
--- what is given for a block and those after it
+-- all that is given for a block and those after it
 abbrev pub given_after : Result Read BadReason → (Known → Given) → Given
 given_after (Err reason) rest = only (tolds.Bad reason)
 given_after (Ok read) rest = followed read.given (rest read.known)

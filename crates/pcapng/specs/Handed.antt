@@ -32,7 +32,7 @@ given_from k bytes = if nat_lt (length bytes) 4 then plain bytes else given_as (
 abbrev pub given_of : Choice → List ℕ → Given
 given_of choice bytes = given_from (unknown choice Little) bytes
 
--- what was read ahead and isn't judged yet
+-- all that was read ahead and isn't judged yet
 abbrev pub unread_of : Converter → List ℕ
 unread_of c = slice_range c.block.items c.start c.end
 
@@ -40,18 +40,18 @@ unread_of c = slice_range c.block.items c.start c.end
 abbrev pub block_of : Converter → ℕ → List ℕ
 block_of c len = slice_range c.block.items c.start (c.start + len)
 
--- what is given next
+-- all that is given next
 abbrev pub pending_of : Converter → List ℕ
 pending_of c = slice_range c.header c.header_from c.header_to ++ slice_range c.block.items c.body_from c.body_to
 
--- what is given from within a block of this length that is passed over, of which so many bytes stand before its last four
+-- all that is given from within a block of this length that is passed over, of which so many bytes stand before its last four
 abbrev pub skipped_at : ℕ → ℕ → Known → List ℕ → Given
 skipped_at before len k bytes =
     if nat_lt (length bytes) (before + 4) then only tolds.Cut
     else if number_in k.order 4 (drop before bytes) == len then given_at k (drop (before + 4) bytes)
     else only (tolds.Bad BlockLengthsDiffer)
 
--- what is given for the bytes that aren't judged yet
+-- all that is given for the bytes that aren't judged yet
 abbrev pub rest_at : Reached → Known → List ℕ → Given
 rest_at stages.Start k bytes = given_from k bytes
 rest_at stages.Untouched k bytes = plain bytes
@@ -60,7 +60,7 @@ rest_at stages.Blocks k bytes = given_at k bytes
 rest_at (stages.Skipping left len) k bytes = skipped_at left len k bytes
 rest_at (stages.Ended told) k bytes = only told
 
--- what is given for them where they end before what comes next does
+-- all that is given for them where they end before what comes next does
 abbrev pub end_at : Reached → Known → List ℕ → Given
 end_at stages.Start k bytes = plain bytes
 end_at stages.Untouched k bytes = plain bytes
@@ -69,11 +69,11 @@ end_at stages.Blocks k bytes = if length bytes == 0 then end_given k else only t
 end_at (stages.Skipping left len) k bytes = only tolds.Cut
 end_at (stages.Ended told) k bytes = only told
 
--- what is given where the source has these bytes left
+-- all that is given where the source has these bytes left
 abbrev pub handed : Converter → List ℕ → Given
 handed c left = followed (pending_of c) (rest_at c.stage (known_of c.section) (unread_of c ++ left))
 
--- what is given next, and then for the unread bytes and those that the source has left, where it exposes them
+-- all that is given next, and then for the unread bytes and those that the source has left, where it exposes them
 abbrev pub known_at : List ℕ → Reached → Known → List ℕ → Option (List ℕ) → Option Given
 known_at pending stage k unread None = None
 known_at pending stage k unread (Some left) = Some (followed pending (rest_at stage k (unread ++ left)))
@@ -81,7 +81,7 @@ known_at pending stage k unread (Some left) = Some (followed pending (rest_at st
 abbrev pub handed_known : Converter → Option (List ℕ) → Option Given
 handed_known c known = known_at (pending_of c) c.stage (known_of c.section) (unread_of c) known
 
--- what is told where nothing follows
+-- all that is told where nothing follows
 abbrev pub told_at : Reached → Told
 told_at (stages.Ended told) = told
 told_at stage = tolds.Nothing
@@ -101,15 +101,15 @@ abbrev pub told_in : Option Given → Told
 told_in None = tolds.Nothing
 told_in (Some given) = given.told
 
--- what a recording's source exposes
+-- all that a recording's source exposes
 abbrev pub remaining_of : {S : Type 0} → (S → Option (List ℕ)) → RecordingSource S → Option (List ℕ)
 remaining_of remaining s = known_bytes (bytes_in (handed_known s.converter (remaining s.source)))
 
--- what it tells
+-- all that it tells
 abbrev pub told_of : {S : Type 0} → (S → Option (List ℕ)) → RecordingSource S → Told
 told_of remaining s = told_in (handed_known s.converter (remaining s.source))
 
--- what is given stays, whatever the source has left
+-- the given bytes stay, whatever the source has left
 abbrev pub HandsOn : Converter → Converter → Type 0
 HandsOn a b = (left : List ℕ) → handed b left ≡ handed a left
 
@@ -135,6 +135,6 @@ StillGiven c (steps.Needs needed) pending = pending_of c ≡ pending
 abbrev pub KeepsRest : Converter → Converter → Type 0
 KeepsRest a b = (b.stage ≡ a.stage) × (b.start ≡ a.start) × (b.end ≡ a.end) × (b.block ≡ a.block) × (pending_of b ≡ pending_of a)
 
--- what is given, where it is known, stays
+-- the given bytes, where they are known, stay
 abbrev pub KeepsGiven : Option Given → Option Given → Type 0
 KeepsGiven a b = Keeps (bytes_in a) (bytes_in b) × StaysTold (bytes_in a) (told_in a) (told_in b)

@@ -36,7 +36,7 @@ abbrev pub has_name : List ℕ → Option (List ℕ) → Bool
 has_name name None = false
 has_name name (Some own) = bytes_eq own name
 
--- what is described, of an interface
+-- the description of an interface
 abbrev pub described_of : Interface → Described
 described_of i = record {
   number = i.number;

@@ -38,7 +38,7 @@ HeaderFaultIsTold = (choice : Choice) (bytes : List ℕ) (fault : HeaderFault) �
 abbrev pub ShortFileIsTold : Type 0
 ShortFileIsTold = (choice : Choice) (bytes : List ℕ) (needed : ℕ) → IsPcapng bytes → first_of bytes ≡ Needs needed → header_given (given_of choice bytes) ≡ Err Short
 
--- what is known where the first section begins
+-- the knowledge where the first section begins
 abbrev pub first_known : Choice → ByteOrder → Known
 first_known choice order = in_section order (unknown choice Little)
 

@@ -24,7 +24,7 @@ value_len order bytes = number_in order 2 (drop 2 bytes)
 abbrev pub option_len : ByteOrder → List ℕ → ℕ
 option_len order bytes = 4 + padded_len (value_len order bytes)
 
--- what stands at the front, before the options that follow the option there
+-- all that stands at the front, before the options that follow the option there
 abbrev pub options_from : ByteOrder → List ℕ → Options → Options
 options_from order bytes rest =
     if length bytes == 0 then ended

@@ -37,7 +37,7 @@ packet_with k fields bytes (Ok roles.Taken) = stamped_packet fields bytes (stamp
 packet_with k fields bytes (Ok roles.Counted) = []
 packet_with k fields bytes (Ok roles.Skipped) = []
 
--- what a whole block of this kind holds
+-- the packets of a whole block of this kind
 abbrev pub packets_as : BlockKind → Known → ByteOrder → List ℕ → List Packet
 packets_as kinds.Packet k order bytes =
     packet_with k (fields_of order kinds.Packet bytes) bytes (role_of k (fields_of order kinds.Packet bytes).interface)
@@ -45,7 +45,7 @@ packets_as kinds.ObsoletePacket k order bytes =
     packet_with k (fields_of order kinds.ObsoletePacket bytes) bytes (role_of k (fields_of order kinds.ObsoletePacket bytes).interface)
 packets_as kind k order bytes = []
 
--- ---- those of blocks
+-- ---- the packets of blocks
 
 abbrev pub packets_after : Result Read BadReason → List Packet → (Known → List Packet) → List Packet
 packets_after (Err reason) own rest = []

@@ -13,7 +13,7 @@ use Rattle.pcapng.specs.declared.section.Role.TheVariants as roles
 use Rattle.pcapng.specs.declared.section.Section.{Section}
 use Rattle.pcapng.specs.declared.section.TheConstants.{MAX_INTERFACES}
 
--- what is remembered of the interface of which packets were taken in earlier sections
+-- the memory of the interface of which packets were taken in earlier sections
 pub record Remembered : Type 0 where
   -- its number in the last of them that had packets of it
   pub number : ℕ
@@ -36,11 +36,11 @@ pub record Known : Type 0 where
   -- the chosen interface was described, in this section or an earlier one
   pub described : Bool
 
--- what is remembered, of an interface that was met
+-- the memory of an interface that was met
 abbrev pub remembered_of : Met → Remembered
 remembered_of m = record { number = m.number; name = bytes_of_name m.name }
 
--- what a section knows
+-- the knowledge of a section
 abbrev pub known_of : Section → Known
 known_of s = record {
   choice = s.choice;
@@ -148,7 +148,7 @@ role_among Any None before number name = role_after before number name
 role_among (Number wanted) taken before number name = Ok roles.Taken
 role_among (Name wanted) taken before number name = Ok roles.Taken
 
--- what is done with a packet of this number and interface
+-- the role of a packet of this number and interface
 abbrev pub role_with : Known → ℕ → Described → Result Role BadReason
 role_with k number i =
     if is_chosen k.choice k.named i then (if i.ethernet then role_among k.choice k.taken k.before number i.name else Ok roles.Counted) else Ok roles.Skipped
@@ -157,7 +157,7 @@ abbrev pub role_at : Known → ℕ → Option Described → Result Role BadReaso
 role_at k number None = Err reasons.UnknownInterface
 role_at k number (Some i) = role_with k number i
 
--- what is done with a packet of the interface of this number
+-- the role of a packet of the interface of this number
 abbrev pub role_of : Known → ℕ → Result Role BadReason
 role_of k number = role_at k number (slice_get k.interfaces number)
 

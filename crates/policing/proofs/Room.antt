@@ -18,7 +18,7 @@ charges-append : (link : VirtualLink) (xs ys : List Entry) → charges link (xs 
 charges-append link [] ys = omega arith
 charges-append link (x ∷ xs) ys = omega (arith, charges-append link xs ys)
 
--- what fits the cap and the balance with its credit fits every window
+-- a frame that fits the cap and the balance with its credit fits every window
 has_room_fits : (link : VirtualLink) (last now : ℕ) (entries : List Entry) (content size : ℕ) →
     last ≤ now → NoneAfter last entries → FitsEach link last entries content →
     cost link size ≤ cap_of link → cost link size ≤ content + credit link (now - last) →
@@ -30,13 +30,13 @@ has_room_fits link last now (e ∷ es) content size h order fits a b =
     let here : charges link (e ∷ es) + cost link size ≤ cap_of link + credit link (now - e.stamp) = omega (arith, parts, fits.0, b) in
     rw (le-leb _ _ here, has_room_fits link last now es content size h order.1 fits.1 a b) refl
 
--- what fits every window fits the cap
+-- a frame that fits every window fits the cap
 has_room-cap : (link : VirtualLink) (now : ℕ) (entries : List Entry) (size : ℕ) → has_room link entries now size ≡ true →
     cost link size ≤ cap_of link
 has_room-cap link now [] size room = leb-true (cost link size) (cap_of link) room
 has_room-cap link now (e ∷ es) size room = has_room-cap link now es size (and_parts _ _ room).1
 
--- what fits every window fits the balance with its credit
+-- a frame that fits every window fits the balance with its credit
 has_room_balance : (link : VirtualLink) (last now : ℕ) (entries : List Entry) (content size : ℕ) →
     last ≤ now → NoneAfter last entries → FillsOne link last entries content → has_room link entries now size ≡ true →
     cost link size ≤ content + credit link (now - last)
@@ -64,7 +64,7 @@ last_after-append : (last : Option ℕ) (entries : List Entry) (entry : Entry) �
 last_after-append last [] entry = refl
 last_after-append last (x ∷ xs) entry = last_after-append (Some x.stamp) xs entry
 
--- what is left after a charge fits each window
+-- the rest after a charge fits each window
 FitsEach-append : (link : VirtualLink) (last now : ℕ) (entries : List Entry) (entry : Entry) (content left : ℕ) →
     last ≤ now → entry.stamp ≡ now → NoneAfter last entries → FitsEach link last entries content →
     left + charge link entry.size entry.policing ≤ cap_of link →
@@ -167,7 +167,7 @@ FitsEach-content link (Some last) entries entry content left e order fits fills 
       ],
     )
 
--- what an account knows after one more frame
+-- all that an account knows after one more frame
 pub stands_after-append : (balance : Balance) (link : VirtualLink) (entries : List Entry) (stamp size : ℕ) (policing : Policing)
     (smax bag cap left : ℕ) → smax ≡ balance.smax → bag ≡ balance.bag → cap ≡ balance.cap →
     StandsAfter balance link entries → ForSome balance.last (λ last. last ≤ stamp) →

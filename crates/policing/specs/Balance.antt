@@ -11,7 +11,7 @@ pub record Balance : Type 0 where
   pub content : ℕ
   pub last : Option ℕ
 
--- what an account holds at a moment, with the credit since the last frame
+-- the content of an account at a moment, with the credit since the last frame
 abbrev pub content_since : Option ℕ → ℕ → ℕ → ℕ → ℕ → ℕ
 content_since None smax cap content stamp = content
 content_since (Some last) smax cap content stamp = min cap (content + smax * (stamp - last))

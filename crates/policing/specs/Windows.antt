@@ -16,20 +16,20 @@ pub record Entry : Type 0 where
 abbrev pub cap_of : VirtualLink → ℕ
 cap_of link = link.smax * (link.bag + link.jitter)
 
--- what a time credits
+-- the credit of a time
 abbrev pub credit : VirtualLink → ℕ → ℕ
 credit link time = link.smax * time
 
--- what a frame of this size costs
+-- the cost of a frame of this size
 abbrev pub cost : VirtualLink → ℕ → ℕ
 cost link size = size * link.bag
 
--- what a frame was charged
+-- the charge of a frame
 abbrev pub charge : VirtualLink → ℕ → Policing → ℕ
 charge link size Within = cost link size
 charge link size Excess = 0
 
--- what all these frames were charged
+-- the charges of all these frames
 abbrev pub charges : VirtualLink → List Entry → ℕ
 charges link [] = 0
 charges link (entry ∷ entries) = charge link entry.size entry.policing + charges link entries

@@ -43,19 +43,19 @@ option_cases : {A : Type 0} (o : Option A) → ((x : A) × (o ≡ Some x)) ⊎ (
 option_cases None = inr refl
 option_cases (Some x) = inl (x, refl)
 
--- ---- what a reader takes of what is given
+-- ---- all that a reader takes of what is given
 
 abbrev ends_with : ℕ → ℕ → ℕ → ℕ → Given → Option Ending
 ends_with most late n high given = ending_at capture_layout most late given.told n high given.bytes
 
--- what is told alone, below the number of packets that is read
+-- all that is told alone, below the number of packets that is read
 cut_ends : (most late n high : ℕ) → nat_eq n most ≡ false → ends_with most late n high (only tolds.Cut) ≡ Some (Cut n)
 cut_ends most late n high below = rw below refl
 
 bad_ends : (most late n high : ℕ) (reason : BadReason) → nat_eq n most ≡ false → ends_with most late n high (only (tolds.Bad reason)) ≡ Some (Bad n reason)
 bad_ends most late n high reason below = rw below refl
 
--- ---- what is given for the first bytes
+-- ---- all that is given for the first bytes
 
 short_given : (l : Layout) (told : Told) (bytes : List ℕ) (next : Given) → 0 < length bytes → length bytes < 16 → given_at l told bytes next ≡ only tolds.Cut
 short_given l told bytes next some few =

@@ -20,7 +20,7 @@ use Rattle.pcap_io.proofs.PacketBytes.{none_of}
 use Rattle.pcap_io.proofs.Steps.{bad_at_head, cut_at_head}
 use Rattle.recording_files.specs.Given.{end_of, given_at, given_body, given_end, given_header, given_within, head_of, header_text, packet_text, part_given}
 
--- ---- what is given after bytes
+-- ---- all that is given after bytes
 
 abbrev pub with_bytes : Told → List ℕ → Given
 with_bytes told bytes = record { bytes = bytes; told = told }
@@ -100,7 +100,7 @@ given_first l told bytes next none =
     rw none (ap (followed (packet_text l (head_of l bytes) (drop 16 bytes)))
     (any_bound (length bytes) (suc (length rest)) l told rest next (omega (arith, some, size)) (omega arith)))
 
--- ---- what the first bytes say
+-- ---- all that the first bytes say
 
 -- a reader that takes one packet, whatever its time
 abbrev at_start : Layout → Position

@@ -41,7 +41,7 @@ pub none_first : (xs ys : List ℕ) → xs ++ ys ≡ [] → xs ≡ []
 none_first [] ys e = refl
 none_first (x ∷ xs) ys e = cc
 
--- ---- what is known
+-- ---- all that is known
 
 keeps_equal : (x y : Given) → y ≡ x → KeepsGiven (Some x) (Some y)
 keeps_equal x y e = (ap (λ (g : Given). g.bytes) e, ap (λ (g : Given). g.told) e)
@@ -51,7 +51,7 @@ consumes_equal x y front e = (ap (λ (g : Given). g.bytes) e, sym (ap (λ (g : G
 
 -- ---- a device that fails
 
--- what is left of the file stays
+-- the rest of the file stays
 pub keeps_left : (p q : List ℕ) (s : FilesStage) (t u : Told) (l m : Option (List ℕ)) (f : Option (List Given)) → q ≡ p → Keeps l m → StaysTold l t u
     → KeepsGiven (known_at p s t l f) (known_at q s u m f)
 keeps_left p q s t u None m f e h stays = (tt, tt)
@@ -129,7 +129,7 @@ begins_wrong place fault told p q s t u (Some xs) m (Some fs) a e d c (read, (ys
 
 -- ---- packets
 
--- what is given for a packet's header, or for how the file ends, is given further on
+-- a packet's header, or how the file ends, is given further on
 pub starts : (layout : Layout) (r : Result Packet Ending) (p q : List ℕ) (s to : FilesStage) (t u : Told) (l m : Option (List ℕ)) (f : Option (List Given))
     → s ≡ stages.Header layout → p ≡ [] → ReadsStart layout t l m r → StaysTold l t u
     → ((xs ys : List ℕ) (fs : List Given) → StartGives layout t xs ys r → followed q (rest_of to (with_bytes t ys) fs) ≡ given_at layout t xs (given_next fs))
@@ -206,7 +206,7 @@ runs layout p q front s t u (Some xs) (Some ys) (Some fs) frames greatest e d c 
     let next : Given = given_next fs in
     rw (e, d, c, stays) (consumes_equal _ _ front (ap (λ (b : List ℕ). given_at layout t b next) gone ∙ run_given layout t front frames greatest ys next given run))
 
--- ---- what is given
+-- ---- all that is given
 
 pub gives : (front p q : List ℕ) (s to : FilesStage) (t u : Told) (l m : Option (List ℕ)) (f g : Option (List Given)) → p ≡ front ++ q → m ≡ l → u ≡ t → g ≡ f
     → ((file : Given) (fs : List Given) → rest_of to file fs ≡ rest_of s file fs) → ConsumesGiven (known_at p s t l f) (known_at q to u m g) front
@@ -255,7 +255,7 @@ none_ahead ahead (Some xs) e = rw e refl
 
 -- ---- a read
 
--- what was put into a buffer stands within it
+-- bytes put into a buffer stand within it
 put_within : (done n k : ℕ) (buf got : List ℕ) → done ≤ length buf → n ≤ length got → done + n ≤ length (put_mid done k buf got)
 put_within done n k buf got within fits =
     let front : List ℕ = take done buf in
@@ -302,7 +302,7 @@ fault_reads a b d e done (Err fault) buf gone kept same came none =
     (subst (λ (o : Option Given). Keeps (bytes_in a) (bytes_in o)) (sym same)
     (keeps_after (bytes_in a) (bytes_in b) (bytes_in d) (take done buf) (ap (λ (m : ℕ). take m buf) none) gone.0 kept.0))
 
--- ---- what is told
+-- ---- all that is told
 
 pub told_on : (a b c : Option Given) (front : List ℕ) → ConsumesGiven a b front → StaysTold (bytes_in b) (told_in b) (told_in c) → StaysTold (bytes_in a) (told_in a) (told_in c)
 told_on a b c front gone stays = stays_consumed (bytes_in a) (bytes_in b) (told_in a) (told_in b) (told_in c) front gone.0 gone.1 stays

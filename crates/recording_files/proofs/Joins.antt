@@ -23,7 +23,7 @@ use Rattle.recording_files.specs.Given.{given_as, given_at, given_next, given_of
 use Rattle.recording_files.specs.Laws.{AreWhole, FaultIsTold, IsCleanEnd, IsReadAs, LastIsRead, NoHeaderEnds, packet_given}
 use Rattle.recording_files.specs.declared.stage.WhichFile.TheVariants.{First, Next}
 
--- ---- what is given
+-- ---- all that is given
 
 -- the packets of one file and of those after it, before what the others give
 both_given : (own more packets : List Packet) (next : Given) → packets ≡ own ++ more → followed (texts own) (followed (texts more) next) ≡ followed (texts packets) next

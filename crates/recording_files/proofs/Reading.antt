@@ -70,7 +70,7 @@ given_all l told late high (r ∷ rs) rest next good =
     ∙ (ap (followed first) (given_all l told late (max high (stamp_of l r)) rs rest next good.1)
     ∙ sym (follow_both first (flat_map (packet_bytes capture_layout) (map (packet_given l) rs)) (given_at l told rest next))))
 
--- ---- what is given is no file header
+-- ---- no file header is given
 
 which : (b : Bool) → (b ≡ true) ⊎ (b ≡ false)
 which true = inl refl
@@ -122,7 +122,7 @@ clear_at Microseconds h less clear =
 pub given_no_header : (l : Layout) (h : PacketHeader) → h.fraction < fractions_of l.precision → is_file_header h ≡ false → is_file_header (given_header l h) ≡ false
 given_no_header l h less clear = clear_at l.precision h less clear
 
--- ---- what is given is good
+-- ---- good packets are given
 
 pub stamp_fits : (q : Precision) (seconds fraction : ℕ) → seconds < 2 ^ 32 → fraction < fractions_of q → seconds * 1000000000 + fraction * nanoseconds_of q < 1000000000 * 2 ^ 32
 stamp_fits Nanoseconds seconds fraction s f = omega (arith, s, f)

@@ -91,7 +91,7 @@ run_more l bytes at len frames greatest stamp within run b =
       time = ap (λ (n : ℕ). max n stamp) run.time ∙ (ap (λ (n : ℕ). max (high_after l 0 run.packets) n) b.time ∙ sym (high_more l 0 run.packets b.packet));
     }
 
--- ---- what is given for them
+-- ---- all that is given for them
 
 less_than_one : (p : Precision) (n : ℕ) → n < fractions_of p → n < 1000000000
 less_than_one Nanoseconds n h = omega (arith, h)

@@ -8,7 +8,7 @@ use Rattle.recording_files.specs.declared.stage.FilesStage.{FilesStage}
 use Rattle.recording_files.specs.declared.stage.FilesStage.TheVariants as stages
 use Rattle.recording_files.specs.declared.supply.ReadFile.{ReadFile}
 
--- what is told of it where it comes back
+-- all that is told of it where it comes back
 abbrev pub read_file_of : {P F : Type 0} → JoinedSource P F → Option F → Option (ReadFile F)
 read_file_of j None = None
 read_file_of j (Some file) = Some (record { source = file; frames = j.frames; greatest = j.greatest })
@@ -18,7 +18,7 @@ pub record CountsFrames {P F : Type 0} (old new : JoinedSource P F) (frames grea
   pub count : new.frames ≡ min (old.frames + frames) (2 ^ 64 - 1)
   pub time : new.greatest ≡ max old.greatest greatest
 
--- those of a run of packets were
+-- the counts of a run of packets were
 pub record CountsRun {P F : Type 0} (layout : Layout) (old new : JoinedSource P F) (bytes : List ℕ) : Type 0 where
   pub frames : ℕ
   pub greatest : ℕ

@@ -8,12 +8,12 @@ use Rattle.recording_files.specs.Handed.{is_over, known_of, remaining_of, told_o
 use Rattle.recording_files.specs.declared.files.RecordingFiles.{RecordingFiles}
 use Rattle.recording_files.specs.declared.files.RecordingFiles.TheVariants.{One, Several}
 
--- what is left: of one file its own bytes
+-- all that is left: of one file its own bytes
 abbrev pub left_of : {P F : Type 0} → (F → Option (List ℕ)) → (F → Told) → (P → Option (List Given)) → RecordingFiles P F → Option (List ℕ)
 left_of remaining told files (One f) = remaining f
 left_of remaining told files (Several j) = remaining_of remaining told files j
 
--- what it tells
+-- all that it tells
 abbrev pub tells_of : {P F : Type 0} → (F → Option (List ℕ)) → (F → Told) → (P → Option (List Given)) → RecordingFiles P F → Told
 tells_of remaining told files (One f) = told f
 tells_of remaining told files (Several j) = told_of remaining told files j
@@ -28,7 +28,7 @@ abbrev pub failures_of : {P F : Type 0} → (F → ℕ) → RecordingFiles P F �
 failures_of failures (One f) = failures f
 failures_of failures (Several j) = j.failures
 
--- what it exposes is bytes
+-- it exposes bytes
 pub give_bytes : {P F : Type 0} (remaining : F → Option (List ℕ)) (told : F → Told) (files : P → Option (List Given))
     → ((f : F) → IfSome (remaining f) IsBytes) → (r : RecordingFiles P F) → IfSome (left_of remaining told files r) IsBytes
 give_bytes remaining told files own (One f) = own f

@@ -39,7 +39,7 @@ header_text h = header_bytes capture_layout h.seconds h.fraction h.captured_len 
 abbrev pub end_of : Layout → Told → List ℕ → Option Ending
 end_of layout told bytes = ending_at layout 1 0 told 0 0 bytes
 
--- what is given for an ending, where a truncated packet gives `part` and the next files give `next`; and where there is none
+-- all that is given for an ending, where a truncated packet gives `part` and the next files give `next`; and where there is none
 abbrev pub given_end : Option Ending → Given → Given → Given → Given
 given_end (Some (Clean n)) part next packets = next
 given_end (Some (Cut n)) part next packets = part
@@ -50,11 +50,11 @@ given_end None part next packets = packets
 abbrev pub head_of : Layout → List ℕ → PacketHeader
 head_of layout bytes = header_fields layout (take PACKET_HEADER_LEN bytes)
 
--- what is given for that header, with the bytes of its packet
+-- all that is given for that header, with the bytes of its packet
 abbrev pub packet_text : Layout → PacketHeader → List ℕ → List ℕ
 packet_text layout head body = header_text (given_header layout head) ++ take head.captured_len body
 
--- what is given for a packet that is truncated: its header and the bytes that are there, or that its header is truncated
+-- all that is given for a packet that is truncated: its header and the bytes that are there, or that its header is truncated
 abbrev pub part_given : Layout → List ℕ → Given
 part_given layout bytes =
     if nat_lt (length bytes) PACKET_HEADER_LEN then only tolds.Cut
@@ -72,7 +72,7 @@ given_within (suc n) layout told bytes next =
 unfoldable pub given_at : Layout → Told → List ℕ → Given → Given
 given_at layout told bytes next = given_within (suc (length bytes)) layout told bytes next
 
--- what is given after a packet's header, where these bytes are left of its file
+-- all that is given after a packet's header, where these bytes are left of its file
 abbrev pub given_body : Layout → Told → PacketHeader → List ℕ → Given → Given
 given_body layout told h bytes next =
     if nat_lt (length bytes) h.captured_len then plain bytes
@@ -85,7 +85,7 @@ abbrev pub file_header_of : WhichFile → List ℕ
 file_header_of First = capture_header
 file_header_of Next = []
 
--- what is told of a file that has no header
+-- all that is told of a file that has no header
 abbrev pub no_header : WhichFile → HeaderFault → Told
 no_header First fault = tolds.NoHeader fault
 no_header Next fault = tolds.Bad NextFile
@@ -94,11 +94,11 @@ abbrev pub given_as : WhichFile → Result Layout HeaderFault → Given → Give
 given_as place (Ok layout) file next = followed (file_header_of place) (given_at layout file.told (drop FILE_HEADER_LEN file.bytes) next)
 given_as place (Err fault) file next = only (no_header place fault)
 
--- what is given for a file, and for those after it
+-- all that is given for a file, and for those after it
 abbrev pub given_file : WhichFile → Given → Given → Given
 given_file place file next = given_as place (header_given file) file next
 
--- what is given for further files
+-- all that is given for further files
 abbrev pub given_next : List Given → Given
 given_next [] = only tolds.Nothing
 given_next (file ∷ files) = given_file Next file (given_next files)
@@ -108,7 +108,7 @@ abbrev pub given_of : List Given → Given
 given_of [] = only (no_header First Short)
 given_of (file ∷ files) = given_file First file (given_next files)
 
--- what is given for files, of which the first is the recording's first or a further one
+-- all that is given for files, of which the first is the recording's first or a further one
 abbrev pub given_files : WhichFile → List Given → Given
 given_files First files = given_of files
 given_files Next files = given_next files

@@ -19,7 +19,7 @@ abbrev pub body_of : FilesStage → List ℕ → List ℕ
 body_of (stages.Given layout from) drawn = drop from drawn
 body_of stage drawn = []
 
--- what is given for what is left of a file, and for the files that are still to come
+-- all that is given for what is left of a file, and for the files that are still to come
 abbrev pub rest_of : FilesStage → Given → List Given → Given
 rest_of (stages.File place) file files = given_files place files
 rest_of (stages.FileHeader place) file files = given_file place file (given_next files)
@@ -34,22 +34,22 @@ known_at pending stage told (Some bytes) (Some files) = Some (followed pending (
 known_at pending stage told (Some bytes) None = None
 known_at pending stage told None files = None
 
--- what is given next: part of a header, and then of a packet's bytes
+-- all that is given next: part of a header, and then of a packet's bytes
 abbrev pub pending_of : {P F : Type 0} → JoinedSource P F → List ℕ
 pending_of j = waiting_of j.pending ++ body_of j.stage (drawn_of j.input)
 
--- what is given, where the file that is read and the supply expose theirs
+-- all that is given, where the file that is read and the supply expose theirs
 abbrev pub known_of : {P F : Type 0} → (F → Option (List ℕ)) → (F → Told) → (P → Option (List Given)) → JoinedSource P F → Option Given
 known_of remaining told files j = known_at (pending_of j) j.stage (tells_of told j.input) (left_of remaining j.input) (files j.supply)
 
--- what a source of several files exposes, and what it tells
+-- all that a source of several files exposes, and what it tells
 abbrev pub remaining_of : {P F : Type 0} → (F → Option (List ℕ)) → (F → Told) → (P → Option (List Given)) → JoinedSource P F → Option (List ℕ)
 remaining_of remaining told files j = known_bytes (bytes_in (known_of remaining told files j))
 
 abbrev pub told_of : {P F : Type 0} → (F → Option (List ℕ)) → (F → Told) → (P → Option (List Given)) → JoinedSource P F → Told
 told_of remaining told files j = told_in (known_of remaining told files j)
 
--- what is told where nothing follows
+-- all that is told where nothing follows
 abbrev pub told_at : FilesStage → Told
 told_at (stages.Ended told) = told
 told_at stage = tolds.Nothing

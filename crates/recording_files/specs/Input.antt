@@ -18,17 +18,17 @@ abbrev pub file_of : {F : Type 0} → Option (BlockSource F) → Option F
 file_of None = None
 file_of (Some input) = Some (block_source input)
 
--- what was drawn last of the file that is read
+-- all that was drawn last of the file that is read
 abbrev pub drawn_of : {F : Type 0} → Option (BlockSource F) → List ℕ
 drawn_of None = []
 drawn_of (Some input) = drawn_bytes input
 
--- what is left of it, where it exposes its bytes
+-- all that is left of it, where it exposes its bytes
 abbrev pub left_of : {F : Type 0} → (F → Option (List ℕ)) → Option (BlockSource F) → Option (List ℕ)
 left_of remaining None = Some []
 left_of remaining (Some input) = block_remaining remaining input
 
--- what it tells at its end
+-- all that it tells at its end
 abbrev pub tells_of : {F : Type 0} → (F → Told) → Option (BlockSource F) → Told
 tells_of told None = tolds.Nothing
 tells_of told (Some input) = told (block_source input)
@@ -43,7 +43,7 @@ abbrev pub ReadsHeader : Told → Option (List ℕ) → Option (List ℕ) → Re
 ReadsHeader told before after r =
     IfSome before (λ xs. (header_of told xs ≡ r) × ((ys : List ℕ) × (after ≡ Some ys) × IfOk r (λ layout. ys ≡ drop FILE_HEADER_LEN xs)))
 
--- what is given for bytes is what is given for the packet that they begin with and the bytes that are left, or for how they end
+-- bytes give the same as the packet that they begin with and the bytes that are left, or as how they end
 abbrev pub StartGives : Layout → Told → List ℕ → List ℕ → Result Packet Ending → Type 0
 StartGives layout told xs ys (Ok packet) =
     (next : Given) → given_at layout told xs next ≡ followed (header_text packet.header) (given_body packet.layout told packet.header ys next)

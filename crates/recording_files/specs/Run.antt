@@ -5,7 +5,7 @@ use Rattle.pcap_io.specs.Recording.{IsGood, Packet, high_after, packet_bytes, st
 use Rattle.pcap_io.specs.declared.layout.ByteOrder.TheVariants.{Little}
 use Rattle.pcap_io.specs.declared.layout.Layout.{Layout}
 
--- what is given is written so: little-endian, in nanoseconds
+-- the layout of what is given: little-endian, in nanoseconds
 pub record IsGivenLayout (layout : Layout) : Type 0 where
   pub order : layout.order ≡ Little
   pub unit : nanoseconds_of layout.precision ≡ 1

@@ -9,7 +9,7 @@ KeepsFiles None new = ⊤
 KeepsFiles (Some xs) None = ⊥
 KeepsFiles (Some xs) (Some ys) = ys ≡ xs
 
--- what came is the first of the files, which holds and tells this, and the others are still to come
+-- the first of the files came, which holds and tells this, and the others are still to come
 abbrev pub IsFirst : {F : Type 0} → (F → Option (List ℕ)) → (F → Told) → List Given → List Given → Option F → Type 0
 IsFirst remaining told [] ys None = ys ≡ []
 IsFirst remaining told [] ys (Some file) = ⊥

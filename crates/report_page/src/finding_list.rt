@@ -150,10 +150,14 @@ fn push_all(page: &mut Page, view: &View<'_>) {
 const NOTHING: &str = "\
 <p class=\"none\">Nothing found: $frames$ frames of $links$ links in $length$ were looked at, each \
 number, interval, \
-skew and verdict. A ledger doesn't tell what frames hold, nor their source addresses and tags.</p>";
+skew and verdict. $?told$By the manifest no source address and no tag is wrong, and no packet was \
+dropped. A ledger doesn't tell what frames hold.$/$$?untold$A ledger doesn't tell what frames hold, nor \
+their source addresses and tags.$/$</p>";
 
 /// Appends that nothing was found, and what was looked at.
 fn push_nothing(page: &mut Page, view: &View<'_>) {
-    fill!(page; NOTHING; frames = Grouped(view.report.counted().all().frames),
+    let told = view.tells_traffic();
+    fill!(page; NOTHING; told = flag(told), untold = flag(!told),
+        frames = Grouped(view.report.counted().all().frames),
         links = Grouped(view.report.links.len() as u64), length = view.length());
 }

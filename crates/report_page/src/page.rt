@@ -18,7 +18,7 @@ use std::alloc::{AllocError, Global};
 use vl_config::Link;
 
 /// A text that may be absent.
-fn given_if(text: &Option<String>) -> Part<'_> {
+pub(crate) fn given_if(text: &Option<String>) -> Part<'_> {
     text.as_ref().map_or(Text(""), |text| Given(text))
 }
 

@@ -1,11 +1,12 @@
 //! The sentences of findings.
 
-use crate::page::push_ending;
+use crate::page::{given_if, push_ending};
 use crate::view::View;
 use crate::writer::Part::{Duration, Grouped, Number, Tenths, Text};
 use crate::writer::{Named, Page, Part, flag, name_in, part_of};
 use afdx_frame::{Network, VlId};
 use findings::{Finding, Kind, Outside, Side, Sign, Span, Word};
+use run_manifest::RecordingRecord;
 
 /// How many links, spans and links outside the table a sentence names.
 const NAMED: usize = 6;
@@ -53,6 +54,21 @@ const ENDS: &str = "\
 $?far$$b$Recording $n$ ends $long$ before the other$e$: $count$ frame$s$ of $o$ $have$ no copy in it$/$\
 $?near$$count$ frame$s$ at the very end $have$ no copy on $n$: the recordings end $long$ apart$/$";
 
+const TORN: &str = "\
+$b$Recording $n$ lacks $?many$$times$ parts$/$$?once$a part$/$$e$ (@spans@), since files of it are torn: \
+$unrecorded$ numbers are missing there, which the recorder lost";
+
+const DROPPED: &str = "\
+$b$The recorder of $n$ dropped $count$ packet$s$$e$, as its recording says: numbers that are missing on \
+$n$ may be these";
+
+const CROSSED: &str = "\
+$b$$count$ frame$s$ of @who@ on $n$ $have$ source addresses of network $o$$e$, from $from$ to $to$: are \
+cables swapped?";
+
+const TAGGED: &str = "\
+$b$$count$ frame$s$ on $n$ $have$ an 802.1Q tag$e$, 4 bytes that the tap or a switch added";
+
 const NO_FRAMES: &str = "\
 $b$$?two$The ledger has no frame$/$$?one$Recording $n$ has no frame$/$$e$$?one$: redundancy can't be \
 judged$/$";
@@ -65,7 +81,8 @@ const RUNT: &str = "$b$$count$ frame$s$ on $n$ $are$ below 60 bytes$e$ (runt)";
 
 const OVERSIZE: &str = "$b$$count$ frame$s$ on $n$ $are$ above 1514 bytes$e$ (oversize)";
 
-const FOREIGN: &str = "$b$$count$ frame$s$ on $n$ $have$ another constant field$e$ (foreign)";
+const FOREIGN: &str =
+    "$b$$count$ frame$s$ on $n$ $have$ another constant field$e$ (foreign@kinds@)";
 
 const UNCONFIGURED: &str = "\
 $b$$count$ frame$s$ on $n$ $are$ of links outside the table$e$ (unconfigured): @outside@";
@@ -185,6 +202,10 @@ fn template_of(kind: Kind) -> &'static str {
         Kind::Broken => BROKEN,
         Kind::Begins => BEGINS,
         Kind::Ends => ENDS,
+        Kind::Torn => TORN,
+        Kind::Dropped => DROPPED,
+        Kind::Crossed => CROSSED,
+        Kind::Tagged => TAGGED,
         Kind::NoFrames => NO_FRAMES,
         Kind::Cut => CUT,
         Kind::Runt => RUNT,
@@ -292,7 +313,7 @@ fn parts_of_facts(finding: &Finding) -> [Named<'static>; 12] {
 }
 
 /// The words on how often it happened and to which links, by name.
-fn parts_of_links(finding: &Finding) -> [Named<'static>; 13] {
+fn parts_of_links(finding: &Finding) -> [Named<'static>; 14] {
     let rate = finding.rate.as_ref().filter(|_| finding.links.len() == 1);
     let time = |of: Option<u64>| of.map_or(Text(""), |time| Duration(time));
     let skew = rate
@@ -301,6 +322,7 @@ fn parts_of_links(finding: &Finding) -> [Named<'static>; 13] {
     let wraps = rate.is_some_and(|rate| rate.wraps.saturating_mul(2) >= finding.count);
     let every = finding.of_links >= 3 && finding.kind == Kind::Twice;
     parts! { links = Number(finding.of_links), times = Number(finding.times), many = flag(finding.times > 1),
+        once = flag(finding.times <= 1),
         together = flag(finding.together), anew = flag(finding.anew), every = flag(every),
         bag = time(rate.map(|rate| rate.bag)), jitter = time(rate.map(|rate| rate.jitter)),
         usual = time(rate.and_then(|rate| rate.interval)),
@@ -351,12 +373,33 @@ fn push_outside(page: &mut Page, outside: &[Outside]) {
     fill!(page; "$?more$, ..$/$"; more = flag(outside.len() > OUTSIDE));
 }
 
+/// Foreign frames of a kind.
+const KIND: &str = "\
+$?first$: $/$$?follows$, $/$$frames$ $name$$?typed$of EtherType $ethertype$$/$$?further$of further kinds$/$";
+
+/// Appends the foreign frames of a recording by what they carry, where the manifest says so.
+fn push_kinds(page: &mut Page, recording: Option<&RecordingRecord>) {
+    let Some(kinds) = recording.and_then(|recording| recording.foreign.as_ref()) else {
+        return;
+    };
+    for (at, kind) in kinds.iter().enumerate() {
+        let unnamed = kind.name.is_none();
+        let further = kind.ethertype.is_none();
+        fill!(page; KIND;
+            first = flag(at == 0), follows = flag(at > 0), frames = Grouped(kind.frames),
+            name = given_if(&kind.name), typed = flag(unnamed && !further),
+            ethertype = given_if(&kind.ethertype), further = flag(further));
+    }
+}
+
 /// Appends what a hole of a template stands for.
 fn push_hole(page: &mut Page, view: &View<'_>, finding: &Finding, name: &str, linked: bool) {
     let (found, endings) = (&view.report.findings, &view.report.endings);
     match (name, finding.side) {
         ("who", _) => push_who(page, view, finding, linked),
         ("spans", _) => push_spans(page, view, finding),
+        ("kinds", Side::B) => push_kinds(page, view.recording_b()),
+        ("kinds", _) => push_kinds(page, view.recording_a()),
         ("outside", Side::B) => push_outside(page, &found.outside_b),
         ("outside", _) => push_outside(page, &found.outside_a),
         (_, Side::B) => push_ending(page, &endings.b),
@@ -372,7 +415,7 @@ struct Parts {
     count: [Named<'static>; 5],
     signs: [Named<'static>; 12],
     facts: [Named<'static>; 12],
-    links: [Named<'static>; 13],
+    links: [Named<'static>; 14],
 }
 
 impl Parts {

@@ -92,6 +92,12 @@ const NOTHING: &str = "\
 Nothing found: each number, interval, skew and verdict was looked at. A ledger\n\
 doesn't tell what frames hold, nor their source addresses and tags.\n";
 
+/// The same, where a manifest tells more.
+const NOTHING_BY_MANIFEST: &str = "\
+Nothing found: each number, interval, skew and verdict was looked at. By the\n\
+manifest no source address and no tag is wrong, and no packet was dropped. A\n\
+ledger doesn't tell what frames hold.\n";
+
 /// Appends the findings, worst first.
 fn push_findings(page: &mut Page, alloc: Global, view: &View<'_>) {
     let findings = view.report.findings.all.as_slice();
@@ -105,7 +111,11 @@ fn push_findings(page: &mut Page, alloc: Global, view: &View<'_>) {
             info = Number(beyond(view, Level::Info)));
     }
     let none = findings.iter().all(|finding| finding.level == Level::Info);
-    page.text(if none { NOTHING } else { "" });
+    page.text(match (none, view.tells_traffic()) {
+        (false, _) => "",
+        (true, false) => NOTHING,
+        (true, true) => NOTHING_BY_MANIFEST,
+    });
 }
 
 /// Appends the line of a link that got worse: frames by second today and in the baseline, and in which ways.

@@ -141,6 +141,11 @@ fn path_of<'a>(recording: Option<&'a RecordingRecord>, unknown: &'static str) ->
     recording.map_or(unknown, |recording| recording.path.as_str())
 }
 
+/// Does a manifest have counts of what a recording's frames carry?
+fn is_counted(recording: Option<&RecordingRecord>) -> bool {
+    recording.is_some_and(|recording| recording.tagged.is_some())
+}
+
 impl<'a> View<'a> {
     /// The view of a report.
     ///
@@ -216,22 +221,31 @@ impl<'a> View<'a> {
         }
     }
 
+    /// The manifest's part on the recording of network A.
+    pub fn recording_a(&self) -> Option<&'a RecordingRecord> {
+        self.manifest
+            .and_then(|manifest| manifest.inputs.a.as_ref())
+    }
+
+    /// The same of network B.
+    pub fn recording_b(&self) -> Option<&'a RecordingRecord> {
+        self.manifest
+            .and_then(|manifest| manifest.inputs.b.as_ref())
+    }
+
+    /// Does the manifest tell what frames carry beside what their ledger says?
+    pub fn tells_traffic(&self) -> bool {
+        is_counted(self.recording_a()) || is_counted(self.recording_b())
+    }
+
     /// The paths of the recordings, or names for them.
     pub fn path_a(&self) -> &'a str {
-        path_of(
-            self.manifest
-                .and_then(|manifest| manifest.inputs.a.as_ref()),
-            "a.pcap",
-        )
+        path_of(self.recording_a(), "a.pcap")
     }
 
     /// The path of the recording of network B.
     pub fn path_b(&self) -> &'a str {
-        path_of(
-            self.manifest
-                .and_then(|manifest| manifest.inputs.b.as_ref()),
-            "b.pcap",
-        )
+        path_of(self.recording_b(), "b.pcap")
     }
 
     /// The timestamp of a time since the first line.

@@ -19,7 +19,7 @@ pub read_within : (p q : Position) (before after : Option (List ℕ)) (frames : 
 read_within p q before after [] (same, left) within = subst (λ (x : Position). x.count ≤ p.most) same within
 read_within p q before after (f ∷ fs) (mid, taken, rest) within = read_within (after_frame p f.stamp) q mid after fs rest (omega (arith, taken.bounded))
 
--- ---- what a source tells after frames
+-- ---- all that a source tells after frames
 
 reads_known : (p q : Position) (xs : List ℕ) (after : Option (List ℕ)) (frames : List Frame) → Reads p (Some xs) frames q after → (ys : List ℕ) × (after ≡ Some ys)
 reads_known p q xs after [] (same, left) = (xs, sym left)
@@ -38,7 +38,7 @@ known_after start position told None opened left layout frames opens reads = tt
 known_after start position told (Some bytes) opened left layout frames opens reads =
     reads_known start position (drop FILE_HEADER_LEN bytes) left frames (subst (λ (o : Option (List ℕ)). Reads start o frames position left) opens.1 reads)
 
--- what a source tells doesn't change at a further step
+-- the word of a source doesn't change at a further step
 pub tells_on : (before left : Option (List ℕ)) (x y z : Told) → IfSome before (λ bytes. (ys : List ℕ) × (left ≡ Some ys)) → StaysTold before x y → StaysTold left y z → StaysTold before x z
 tells_on None left x y z known first second = tt
 tells_on (Some bytes) left x y z (ys, is) first second = subst (λ (o : Option (List ℕ)). StaysTold o y z) is second ∙ first

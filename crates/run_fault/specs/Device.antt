@@ -16,7 +16,7 @@ pub record SinkView : Type 0 where
   pub contents : Option (List ℕ)
   pub failures : ℕ
 
--- what a run sees of a source, and of a sink: each by the ghost members of its trait
+-- the view of a source, and of a sink: each by the ghost members of its trait
 abbrev pub source_at : {S : Type 0} → SourceMembers S → S → SourceView
 source_at s source = record { remaining = s.remaining source; failures = s.failures source; told = s.told source }
 

@@ -9,7 +9,7 @@ use Rattle.run_fault.specs.declared.fault.Output.TheVariants as output
 use Rattle.run_fault.specs.declared.fault.WatchFault.{WatchFault}
 use Rattle.run_fault.specs.declared.fault.WatchFault.TheVariants as watch
 
--- what it means that a network's recording wasn't opened
+-- the fault of a network's recording that wasn't opened
 abbrev pub open_fault : Network → OpenFault → WatchFault
 open_fault network (opening.Header fault) = watch.Header network fault
 open_fault network opening.Device = watch.Read network

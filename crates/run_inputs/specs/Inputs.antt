@@ -60,7 +60,7 @@ IsFiltersFault text texts f =
 
 -- ---- texts of files
 
--- what it means that the text of a file wasn't read
+-- the fault of a file whose text wasn't read
 abbrev pub file_fault : FileOption → TextRefusal → Fault
 file_fault file refusals.Device = fault.File file
 file_fault file refusals.TooLong = fault.File file

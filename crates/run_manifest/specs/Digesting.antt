@@ -30,7 +30,7 @@ HoldsIf _ _ bytes = ⊥
 abbrev pub HasPassed : Bool → Tally → List ℕ → Type 0
 HasPassed hashed tally bytes = (tally.bytes ≡ counted bytes) × HoldsIf hashed tally.hasher bytes
 
--- what a read gave or a write took of the buffer
+-- all that a read gave or a write took of the buffer
 abbrev pub passed_bytes : {E : Type 0} → Result ℕ E → List ℕ → List ℕ
 passed_bytes (Ok count) buffer = take count buffer
 passed_bytes (Err e) buffer = []

@@ -9,6 +9,6 @@ mod manifest;
 
 pub use digesting::{Digesting, Sum, Tally, sum_of};
 pub use manifest::{
-    FileRecord, Inputs, MANIFEST_VERSION, Manifest, ManifestFault, Outputs, Program,
-    RecordingRecord, Span, manifest_text, read_manifest,
+    CrossedRecord, FileRecord, Inputs, KindRecord, MANIFEST_VERSION, Manifest, ManifestFault,
+    Outputs, Program, RecordingRecord, Span, TornRecord, manifest_text, read_manifest,
 };

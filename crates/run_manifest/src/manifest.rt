@@ -84,6 +84,49 @@ pub struct RecordingRecord {
     pub last_utc: Option<String>,
     /// How many packets its recorder says that it dropped, where it says so.
     pub dropped: Option<u64>,
+    /// Its torn files, behind which the run went on, in their order.
+    pub torn: Option<Vec<TornRecord>>,
+    /// How many frames have an 802.1Q tag.
+    pub tagged: Option<u64>,
+    /// Its foreign frames by EtherType, in the order of their first frames.
+    pub foreign: Option<Vec<KindRecord>>,
+    /// Its links whose source addresses name the other network.
+    pub crossed: Option<Vec<CrossedRecord>>,
+}
+
+/// Foreign frames of an EtherType.
+#[derive(Drop, Serialize, Deserialize)]
+pub struct KindRecord {
+    /// In hexadecimal digits, as `0x88f7`: `0x0000` stands for a length in its place. None: further kinds.
+    pub ethertype: Option<String>,
+    /// The protocol, where it has a name.
+    pub name: Option<String>,
+    pub frames: u64,
+}
+
+/// The frames of a link on a network whose source addresses name the other one.
+#[derive(Drop, Serialize, Deserialize)]
+pub struct CrossedRecord {
+    pub link: u16,
+    /// How many there are, and how many frames the link has there in all.
+    pub frames: u64,
+    pub of: u64,
+    /// The timestamps of the first and the last, in nanoseconds since 1970.
+    pub first: String,
+    pub last: String,
+}
+
+/// A file of a recording that is torn. Frames that were sent between `last` and `next` may be missing.
+#[derive(Drop, Serialize, Deserialize)]
+pub struct TornRecord {
+    pub path: String,
+    /// `cut`: it ends within a packet. `damaged`: it has bytes that are no packet.
+    pub how: String,
+    /// The greatest timestamp before, and the first one behind it, in nanoseconds since 1970 and in UTC.
+    pub last: Option<String>,
+    pub last_utc: Option<String>,
+    pub next: Option<String>,
+    pub next_utc: Option<String>,
 }
 
 /// The timestamps of a recording's first and last frame, in nanoseconds since 1970 (UTC).
@@ -187,6 +230,10 @@ impl RecordingRecord {
             last: None,
             last_utc: None,
             dropped: None,
+            torn: None,
+            tagged: None,
+            foreign: None,
+            crossed: None,
         })
     }
 
@@ -196,6 +243,59 @@ impl RecordingRecord {
         self.files
             .get_or_insert_with(|| Vec::new(alloc))
             .push(file)?;
+        Ok(())
+    }
+
+    /// Adds a torn file.
+    pub fn add_torn(&mut self, alloc: Global, file: TornRecord) -> Result<(), AllocError> {
+        self.torn.get_or_insert_with(|| Vec::new(alloc)).push(file)?;
+        Ok(())
+    }
+
+    /// Adds foreign frames of an EtherType, or of further ones.
+    pub fn add_kind(
+        &mut self,
+        alloc: Global,
+        ethertype: Option<u16>,
+        name: Option<&str>,
+        frames: u64,
+    ) -> Result<(), AllocError> {
+        let ethertype = match ethertype {
+            Some(ethertype) => {
+                let mut text = String::new(alloc);
+                write!(text, "0x{ethertype:04x}")?;
+                Some(text)
+            }
+            None => None,
+        };
+        let name = owned_if(alloc, name)?;
+        self.foreign
+            .get_or_insert_with(|| Vec::new(alloc))
+            .push(KindRecord {
+                ethertype,
+                name,
+                frames,
+            })?;
+        Ok(())
+    }
+
+    /// Adds a link of which so many frames, of all that it has, name the other network.
+    pub fn add_crossed(
+        &mut self,
+        alloc: Global,
+        link: u16,
+        (frames, of): (u64, u64),
+        span: Span,
+    ) -> Result<(), AllocError> {
+        self.crossed
+            .get_or_insert_with(|| Vec::new(alloc))
+            .push(CrossedRecord {
+                link,
+                frames,
+                of,
+                first: decimal(alloc, span.first)?,
+                last: decimal(alloc, span.last)?,
+            })?;
         Ok(())
     }
 
@@ -220,6 +320,61 @@ impl RecordingRecord {
         self.last = Some(decimal(alloc, span.last)?);
         self.last_utc = Some(utc(alloc, span.last)?);
         Ok(())
+    }
+}
+
+/// A timestamp in nanoseconds and in UTC, if it is known.
+fn moment(
+    alloc: Global,
+    stamp: Option<u64>,
+) -> Result<(Option<String>, Option<String>), AllocError> {
+    match stamp {
+        Some(stamp) => Ok((Some(decimal(alloc, stamp)?), Some(utc(alloc, stamp)?))),
+        None => Ok((None, None)),
+    }
+}
+
+impl CrossedRecord {
+    /// The timestamps of its first frame and its last, if they are numbers.
+    pub fn span(&self) -> Option<(u64, u64)> {
+        Some((self.first.parse().ok()?, self.last.parse().ok()?))
+    }
+}
+
+impl KindRecord {
+    /// The EtherType, if it is one.
+    pub fn number(&self) -> Option<u16> {
+        let digits = self.ethertype.as_ref()?.strip_prefix("0x")?;
+        u16::from_str_radix(digits, 16).ok()
+    }
+}
+
+impl TornRecord {
+    /// A torn file, and the timestamps around it.
+    pub fn new(
+        alloc: Global,
+        path: &str,
+        how: &str,
+        last: Option<u64>,
+        next: Option<u64>,
+    ) -> Result<TornRecord, AllocError> {
+        let (last, last_utc) = moment(alloc, last)?;
+        let (next, next_utc) = moment(alloc, next)?;
+        Ok(TornRecord {
+            path: owned(alloc, path)?,
+            how: owned(alloc, how)?,
+            last,
+            last_utc,
+            next,
+            next_utc,
+        })
+    }
+
+    /// The timestamps around it, if they are known.
+    pub fn hole(&self) -> Option<(u64, u64)> {
+        let last = self.last.as_ref()?.parse().ok()?;
+        let next = self.next.as_ref()?.parse().ok()?;
+        Some((last, next))
     }
 }
 

@@ -5,6 +5,6 @@ use Rattle.bpf_isa.specs.declared.packed.Packed.{Packed}
 use Rattle.filter_workers.specs.Filters.{decision_by}
 use Rattle.filter_workers.specs.declared.decision.Decision.{Decision}
 
--- what the filters say of each frame, in order
+-- the decisions of the filters on each frame, in order
 abbrev pub decisions_by : List (List Packed) → List Frame → List Decision
 decisions_by ps frames = map (decision_by ps) frames

@@ -28,7 +28,7 @@ abbrev pub Leaves : List ℕ → Fault → Devices → Devices → Type 0
 Leaves text (fault.Watch w) before after = (p : List Packed) × IsFilter text p × IsAborted p w before after
 Leaves text f before after = IsFilterFault text None f × (after ≡ before)
 
--- what a capture came to, and what it leaves
+-- the outcome of a capture, and what it leaves
 abbrev pub IsCaptureRun : List ℕ → Result Ending Fault → Devices → Devices → Type 0
 IsCaptureRun text (Ok ending) before after = (p : List Packed) × IsFilter text p × IsCaptured p ending before after
 IsCaptureRun text (Err f) before after = Leaves text f before after
@@ -47,7 +47,7 @@ IsTextRan (Err f) status line = status ≡ 1
 
 -- ---- the command `debug`
 
--- what the devices of a session show, before it or after it
+-- the devices of a session, before it or after it
 pub record DebugDevices : Type 0 where
   pub tap : SourceView
   pub commands : SourceView
@@ -67,7 +67,7 @@ abbrev pub StopsAtTap : WatchFault → DebugDevices → DebugDevices → Type 0
 StopsAtTap w before after =
     IsTapRefusal 0 w before.tap after.tap × (after.commands ≡ before.commands) × (after.sink ≡ before.sink)
 
--- what the command came to, by the text of its filter, and what it leaves
+-- the outcome of the command, by the text of its filter, and what it leaves
 abbrev pub IsDebugRun : List ℕ → Result (Unit {0}) Fault → DebugDevices → DebugDevices → Type 0
 IsDebugRun filter (Err (fault.Numeric f n)) before after = IsFilterFault filter None (fault.Numeric f n) × (after ≡ before)
 IsDebugRun filter (Err (fault.Load f n)) before after = IsFilterFault filter None (fault.Load f n) × (after ≡ before)

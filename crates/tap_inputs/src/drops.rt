@@ -1,4 +1,5 @@
-//! The count of packets that a recorder says it dropped: the statistics of interfaces at a pcapng file's end.
+//! The count of packets that a recorder says it dropped: the statistics of interfaces at a pcapng file's end,
+//! or the counts of its packet blocks, whichever are more, since both may count the same packets.
 
 use crate::described::described_in;
 use crate::interface::{LOOKED_AT, is_pcapng};
@@ -139,13 +140,10 @@ fn counted_of(rt: &HostRuntime, path: &str, choice: Choice) -> Option<Option<u32
     }
 }
 
-/// How many packets the recorder of a regular pcapng file says at its end that it dropped.
-fn dropped_in(rt: &HostRuntime, file: &TapFile) -> Option<u64> {
+/// How many packets the recorder of a regular pcapng file says at its end that it dropped, of an interface or
+/// of all.
+fn dropped_at_end(rt: &HostRuntime, file: &TapFile, counted: Option<u32>) -> Option<u64> {
     let mut end = file.length(rt)?;
-    if !is_pcapng(rt, &file.path).ok()? {
-        return None;
-    }
-    let counted = counted_of(rt, &file.path, file.choice)?;
     let mut opened = File::open(rt, &file.path).ok()?;
     let mut dropped = 0u64;
     for _ in 0..MAX_INTERFACES {
@@ -162,11 +160,29 @@ fn dropped_in(rt: &HostRuntime, file: &TapFile) -> Option<u64> {
 }
 
 impl Tap {
-    /// How many packets the recorders of its regular pcapng files say at their ends that they dropped.
+    /// How many packets the recorder of a file says that it dropped, as far as the file was read.
+    fn dropped_of(&self, rt: &HostRuntime, (number, file): (usize, &TapFile)) -> Option<u64> {
+        if file.length(rt).is_none() {
+            // A pipe's names of interfaces were read once.
+            return match file.choice {
+                Choice::Any => Some(self.lost(number, None)),
+                Choice::Number(interface) => Some(self.lost(number, Some(interface))),
+                Choice::Name(_) => None,
+            };
+        }
+        if !is_pcapng(rt, &file.path).ok()? {
+            return None;
+        }
+        let counted = counted_of(rt, &file.path, file.choice)?;
+        let at_end = dropped_at_end(rt, file, counted).unwrap_or(0);
+        Some(at_end.max(self.lost(number, counted)))
+    }
+
+    /// How many packets the recorders of its regular pcapng files say that they dropped.
     pub fn dropped(&self, rt: &HostRuntime) -> u64 {
         let mut dropped = 0u64;
-        for file in &self.files {
-            dropped = dropped.saturating_add(dropped_in(rt, file).unwrap_or(0));
+        for file in self.files.iter().enumerate() {
+            dropped = dropped.saturating_add(self.dropped_of(rt, file).unwrap_or(0));
         }
         dropped
     }

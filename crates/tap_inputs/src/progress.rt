@@ -1,6 +1,7 @@
 //! The progress of the reading that a person at a terminal sees, on one line that is written over, and
 //! gone at the end.
 use crate::blocks::LiveInput;
+use crate::lost::BlockWalk;
 use crate::recordings::Reading;
 use crate::taps::Tap;
 use crate::whole::WholePackets;
@@ -173,6 +174,8 @@ pub struct Recording<'p> {
     kept: usize,
     /// Its whole packets alone, where the next file goes on behind them.
     whole: Option<WholePackets>,
+    /// The packets that its recorder counts as dropped.
+    walk: BlockWalk,
 }
 
 impl<'p> Recording<'p> {
@@ -185,11 +188,14 @@ impl<'p> Recording<'p> {
             head: [0; FORMAT_LEN],
             kept: 0,
             whole: whole_of(reading, place),
+            walk: BlockWalk::new(reading.rt.alloc()),
         }
     }
 
-    /// The sum of what was read.
+    /// The sum of what was read. The recording is told of packets that were dropped.
     pub fn into_sum(self) -> Sum {
+        let (tap, number) = self.place;
+        tap.note_lost(number, self.walk.lost());
         self.input.tally.end()
     }
 
@@ -230,7 +236,7 @@ impl<'p> Recording<'p> {
 
 /// The whole packets of a file that another follows, where a recording goes on behind a torn one.
 fn whole_of(reading: Reading<'_>, (tap, number): (&Tap, usize)) -> Option<WholePackets> {
-    if reading.resumes && number.saturating_add(1) < tap.files.len() {
+    if tap.resumes && number.saturating_add(1) < tap.files.len() {
         Some(WholePackets::new(reading.rt.alloc()))
     } else {
         None
@@ -292,6 +298,9 @@ impl Recording<'_> {
         let count = read?;
         let bytes = &buf[..count];
         self.keep(bytes);
+        if self.walk.pass(bytes).is_err() {
+            return Err(io::Error::from(ErrorKind::OutOfMemory));
+        }
         if let Some(progress) = self.reading.progress {
             let Reading { rt, network, .. } = self.reading;
             progress.add_bytes(rt, network, bytes.len() as u64);

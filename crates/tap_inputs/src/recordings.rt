@@ -29,8 +29,6 @@ pub struct Reading<'p> {
     pub hashed: bool,
     pub progress: Option<&'p Progress>,
     pub pauses: Option<&'p Pauses>,
-    /// Does the recording go on with its next file behind one that ends within a packet, or is damaged?
-    pub resumes: bool,
 }
 
 impl<'p> Reading<'p> {
@@ -42,7 +40,6 @@ impl<'p> Reading<'p> {
             hashed: false,
             progress: None,
             pauses: None,
-            resumes: false,
         }
     }
 }

@@ -1,9 +1,9 @@
 //! The recordings of a command: the files of each in their order, and what a command line says of them.
 use crate::interface::{chosen_in, refused_interfaces, start_of};
+use crate::lost::LostPackets;
 use crate::outcome::{Cause, Detail, Outcome};
 use crate::streams::Input;
 use crate::texts::text_in;
-use crate::torn::TornFiles;
 use crate::whole::Torn;
 use afdx_frame::Network;
 use command_line::{
@@ -43,8 +43,12 @@ pub struct Tap {
     pub lists: Vec<String>,
     /// The failure that the thread met which reads it, for the one that tells of it.
     failure: Mutex<Option<TapFailure>>,
-    /// The files that are torn, which that thread found.
-    torn: Mutex<TornFiles>,
+    /// Does it go on with its next file behind one that ends within a packet, or is damaged?
+    pub(crate) resumes: bool,
+    /// How each file is torn, as far as that thread found.
+    torn: Mutex<Vec<Option<Torn>>>,
+    /// The packets that recorders count as dropped before others, with the number of their file.
+    lost: Mutex<Vec<(usize, LostPackets)>>,
 }
 
 /// The recordings of a command: that of network A, or its one recording, and that of network B.
@@ -78,6 +82,20 @@ fn recordings_of<'a>(command: Invocation<'a>) -> (Option<&'a str>, Option<&'a st
     }
 }
 
+/// Do a command's recordings go on with their next files behind torn ones?
+fn resumes(command: Invocation<'_>) -> bool {
+    match command {
+        Invocation::Watch(given) => given.resumes,
+        Invocation::Cut(given) => given.resumes,
+        Invocation::TransitCut(given) => given.resumes,
+        Invocation::Links(given) => given.resumes,
+        Invocation::Check(given) => given.resumes,
+        Invocation::Transit(given) => given.resumes,
+        Invocation::Capture(_) | Invocation::Debug(_) | Invocation::Asm | Invocation::Report(_) =>
+            false,
+    }
+}
+
 /// The option that names a network's recording, or a command's one recording.
 pub fn option_of(command: Invocation<'_>, network: Network) -> FileOption {
     match (command, network) {
@@ -93,12 +111,14 @@ pub fn option_of(command: Invocation<'_>, network: Network) -> FileOption {
 impl Tap {
     /// The recording that a command line names, if it names one. What names a list that can't be read, or has
     /// no path, is taken for the path of a file.
-    fn of(rt: &HostRuntime, words: Option<&str>) -> Result<Tap, AllocError> {
+    fn of(rt: &HostRuntime, words: Option<&str>, resumes: bool) -> Result<Tap, AllocError> {
         let mut tap = Tap {
             files: Vec::new(rt.alloc()),
             lists: Vec::new(rt.alloc()),
             failure: Mutex::new(None),
-            torn: Mutex::new(TornFiles::none()),
+            resumes,
+            torn: Mutex::new(Vec::new(rt.alloc())),
+            lost: Mutex::new(Vec::new(rt.alloc())),
         };
         let Some(words) = words else {
             return Ok(tap);
@@ -108,6 +128,9 @@ impl Tap {
                 Some(path) => tap.add_list(rt, word, path)?,
                 None => tap.add(rt, word)?,
             }
+        }
+        if resumes {
+            tap.torn = Mutex::new(vec![in rt.alloc(); None; tap.files.len()]?);
         }
         Ok(tap)
     }
@@ -165,19 +188,44 @@ impl Tap {
         }
     }
 
-    /// Notes that the file of this number is torn.
+    /// Notes how the file of this number is torn.
     pub(crate) fn note_torn(&self, number: usize, torn: Torn) {
         if let Some(mut noted) = self.torn.try_lock() {
-            noted.add(number, torn);
+            if let Some(place) = noted.get_mut(number) {
+                *place = Some(torn);
+            }
         }
     }
 
-    /// The files that are torn.
-    pub(crate) fn torn(&self) -> TornFiles {
-        match self.torn.try_lock() {
-            Some(noted) => *noted,
-            None => TornFiles::none(),
+    /// How the file of this number is torn, if it was read on behind it.
+    pub fn torn(&self, number: usize) -> Option<Torn> {
+        let noted = self.torn.try_lock()?;
+        *noted.get(number)?
+    }
+
+    /// Notes the packets that were dropped before those of the file of this number.
+    pub(crate) fn note_lost(&self, number: usize, packets: &[LostPackets]) {
+        let Some(mut noted) = self.lost.try_lock() else {
+            return;
+        };
+        for lost in packets {
+            // Without memory for one more it isn't told.
+            let _ = noted.push((number, *lost));
         }
+    }
+
+    /// How many packets were dropped before those of the file of this number, of an interface or of all.
+    pub(crate) fn lost(&self, number: usize, interface: Option<u32>) -> u64 {
+        let Some(noted) = self.lost.try_lock() else {
+            return 0;
+        };
+        let mut packets = 0u64;
+        for (of, lost) in noted.iter() {
+            if *of == number && interface.is_none_or(|one| one == lost.interface) {
+                packets = packets.saturating_add(lost.packets);
+            }
+        }
+        packets
     }
 
     /// Adds the files of a list: a path a line. Lines without one are passed over.
@@ -209,9 +257,10 @@ impl Taps {
     /// The recordings of a command.
     pub fn of(rt: &HostRuntime, command: Invocation<'_>) -> Result<Taps, AllocError> {
         let (a, b) = recordings_of(command);
+        let resumes = resumes(command);
         Ok(Taps {
-            a: Tap::of(rt, a)?,
-            b: Tap::of(rt, b)?,
+            a: Tap::of(rt, a, resumes)?,
+            b: Tap::of(rt, b, resumes)?,
         })
     }
 
@@ -287,7 +336,7 @@ impl Taps {
 }
 
 /// How many bytes at the start of a file are read at once, for its first frame.
-const LOOKED_AT: usize = 4096;
+pub(crate) const LOOKED_AT: usize = 4096;
 
 /// How many files are listed at most.
 const MAX_LISTED: usize = 32;
@@ -454,9 +503,12 @@ impl Tap {
             let looked = file
                 .look(rt, option)
                 .map_err(|refused| refused.at(option, number))?;
-            let Some(found) = looked else {
+            let Some(mut found) = looked else {
                 continue;
             };
+            if self.resumes && file.begins_damaged(rt) {
+                found.first = None;
+            }
             if sight.has(found.inode) {
                 let refused = Outcome::from(Fault::Repeated(option));
                 return Err(refused.at(option, number));

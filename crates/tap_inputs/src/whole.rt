@@ -74,9 +74,9 @@ impl WholePackets {
         }
     }
 
-    /// Are there bytes that are no packet?
-    pub fn is_damaged(&self) -> bool {
-        self.is_damaged
+    /// Are there bytes that are no packet right behind a pcap file's header?
+    pub fn begins_damaged(&self) -> bool {
+        self.is_damaged && self.whole <= FILE_HEADER_LEN
     }
 
     /// The part that follows the whole packets, now that the file has ended.

@@ -12,7 +12,7 @@ same_promise [] reader reader' put put' one other = absurd one
 same_promise (Promised promise ∷ rest) reader reader' put put' one other = (sym other.0 ∙ one.0, sym other.1 ∙ one.1)
 same_promise (Delivered _ _ ∷ rest) reader reader' put put' one other = absurd one
 
--- what follows of a value
+-- the consequence of a value
 pub some_map : {X : Type 0} {P Q : X → Type 0} (x : Option X) → ((y : X) → P y → Q y) → IfSome x P → IfSome x Q
 some_map None f all = tt
 some_map (Some y) f all = f y all

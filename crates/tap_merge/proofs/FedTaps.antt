@@ -19,7 +19,7 @@ use Rattle.run_fault.specs.Recording.{most_frames}
 use Rattle.run_fault.specs.Device.{SourceView}
 use Rattle.tap_merge.proofs.TwoTaps.{part_of, part_stopped, read_end, read_frame}
 
--- what a reader has read of a source, once it gave these items
+-- all that a reader has read of a source, once it gave these items
 pub record IsTapRun (network : Network) (late : ℕ) (before : SourceView) (frames : List Frame) (given : List TapItem) (reading : Reading) : Type 0 where
   pub part : ReadsPart network late before frames reading
   pub may_fail : MayFail before.failures reading.failures

@@ -27,7 +27,7 @@ use Rattle.pcap_io.specs.declared.item.ReadFault.{ReadFault}
 use Rattle.pcap_io.specs.declared.item.ReadFault.TheVariants.{Device}
 use Rattle.tap_merge.specs.Rings.{RingsFault, TakesFailure, TapFault, WhereFailed, MergesFrames, MergesItem, AgreesWith, AreFirst, EndsWith, HasEnding, HasTaken, StopsTaking, TakesOn}
 
--- ---- what the merger knows of a network
+-- ---- all that the merger knows of a network
 
 of_tap_count : (network : Network) (late : ℕ) (tap : Tap) (l : List Frame) (last : Tap) → AreOfTap network late tap l last → last.next ≡ tap.next + length l
 of_tap_count network late tap [] last h = sym h.0 ∙ plus_none tap.next
@@ -155,7 +155,7 @@ can_merge_all network end m gs agrees next =
     can_all network (late_of end) (frames_in (taken_items end)) gs m (agrees_to network end m agrees)
     (subst (λ (n : Network). AreNextFrames n (late_of end) (frames_in (taken_items end)) gs) agrees.network_is next)
 
--- ---- what is known of a ring, item by item
+-- ---- all that is known of a ring, item by item
 
 pub frames_append : (xs ys : List TapItem) → frames_in (xs ++ ys) ≡ frames_in xs ++ frames_in ys
 frames_append [] ys = refl
@@ -259,7 +259,7 @@ frames_with xs fs ys is =
 frames_to_end : (xs : List TapItem) (e : Ending) (ys : List TapItem) → ys ≡ xs ++ items.End e ∷ [] → frames_in xs ≡ frames_in ys
 frames_to_end xs e ys is = sym (append-nil (frames_in xs)) ∙ sym (frames_append xs (items.End e ∷ [])) ∙ ap frames_in (sym is)
 
--- what is known of the merger and of both networks' items
+-- all that is known of the merger and of both networks' items
 pub record Known (late : ℕ) (cut : List Frame) (m : MergerState) (xs ys : List TapItem) (end_a end_b : Option Ending) : Type 0 where
   pub late_is : m.late ≡ late
   pub follows : Follows m (frames_in xs) (frames_in ys) cut
@@ -501,7 +501,7 @@ failed_b watch.Spawn rings m new none going same takes taken = tt
 failed_b (watch.Write out) rings m new none going same takes taken = tt
 failed_b watch.Filters rings m new none going same takes taken = tt
 
--- what holds where a source failed
+-- the claim where a source failed
 pub where_failed : {P Q : Type 0} (fault : WatchFault) → (P → Q) → WhereFailed fault P → WhereFailed fault Q
 where_failed (watch.Read network) f p = f p
 where_failed watch.Memory f p = tt

@@ -212,7 +212,7 @@ pub is_ended : (network : Network) (end : Option Ending) (q : Position) (m : Mer
 is_ended network None q m (going, fits) off = absurd (false≢true (sym fits.going ∙ off))
 is_ended network (Some ending) q m agrees off = refl
 
--- ---- what was read, with one item more
+-- ---- all that was read, with one item more
 
 pub read_frame : (network : Network) (late : ℕ) (before : SourceView) (frames : List Frame) (old new : Reading) (f : Frame) → old.position.most ≡ most_frames →
     HasRead network late before frames None old → TakesFrame old.position old.remaining new.remaining f → new.position ≡ after_frame old.position f.stamp →
@@ -259,7 +259,7 @@ read_end network late before frames old new ending read ends same = record {
   failures = same ∙ read.failures;
 }
 
--- what was read up to an ending is the recording
+-- frames read up to an ending are the recording
 pub read_whole : (network : Network) (late : ℕ) (before : SourceView) (frames : List Frame) (ending : Ending) (reading : Reading) →
     HasRead network late before frames (Some ending) reading → IfSome before.remaining (λ bytes. IsRecording network late before.told bytes frames ending)
 read_whole network late before frames ending reading read =
@@ -353,7 +353,7 @@ less_work network None old new m m' other most (f, fs, (mid, step, rest)) =
 less_work network (Some ending) old new m m' other most (ends, moved, is) =
     last_less most_frames old.position.count (length m.pending) (length m'.pending) other (ap (λ (s : MergerState). length s.pending) is ∙ ended_length m network)
 
--- ---- what comes next of a tap is merged
+-- ---- the next of a tap is merged
 
 all_a : (fs : List Frame) (late : ℕ) (before : SourceView) (fa fb cut : List Frame) (old new : Reading) (m m' : MergerState) → old.position.most ≡ most_frames →
     HasRead A late before fa None old → Follows m fa fb cut → MergesAll A fs old new m m' →
@@ -395,7 +395,7 @@ merged_b (Some ending) late before fa fb cut old new m m' most read fol (ends, m
   subst (λ (s : MergerState). Follows s fa fb cut) (sym is) (follows_end m fa fb cut B fol),
 )
 
--- ---- what comes next of a tap isn't merged
+-- ---- the next of a tap isn't merged
 
 counted_from : (a b c : ℕ) → b ≡ a → CountsFailure b c → CountsFailure a c
 counted_from a b c same counts = subst (λ n. CountsFailure n c) same counts

@@ -48,7 +48,7 @@ abbrev pub MergesItem : Network → Option Ending → TapEnd → TapEnd → Merg
 MergesItem network None old new m m' = MergesFrames network old new m m'
 MergesItem network (Some ending) old new m m' = (taken_items new ≡ taken_items old ++ items.End ending ∷ []) × (m' ≡ ended m network)
 
--- what a fault says of the items of a network: a source that failed gave the last of them; a ring is lost where an item was, or where more was asked
+-- all that a fault says of the items of a network: a source that failed gave the last of them; a ring is lost where an item was, or where more was asked
 -- for after its ending or a fault
 abbrev pub TapFault : Network → WatchFault → TapEnd → Type 0
 TapFault network (watch.Read failed) end = (failed ≡ network) × (has_lost end ≡ false) × EndsWith (items.Failed Device) (taken_items end)
@@ -56,7 +56,7 @@ TapFault network watch.Memory end = ⊤
 TapFault network watch.RingLost end = (has_lost end ≡ true) ⊎ (is_over (taken_items end) ≡ true)
 TapFault network fault end = ⊥
 
--- what a fault says of frames that came together: there was no memory for them, or one was lost
+-- all that a fault says of frames that came together: there was no memory for them, or one was lost
 abbrev pub StopsTogether : WatchFault → TapEnd → Type 0
 StopsTogether watch.Memory end = is_over (taken_items end) ≡ false
 StopsTogether watch.RingLost end = has_lost end ≡ true
@@ -82,7 +82,7 @@ WhereFailed fault P = ⊤
 
 -- ---- both rings
 
--- what the merger knows of a network: it has ended where its ending was taken
+-- all that the merger knows of a network: it has ended where its ending was taken
 abbrev pub HasEnding : Option Ending → Tap → List TapItem → Type 0
 HasEnding None tap items = tap.ended ≡ false
 HasEnding (Some ending) tap taken = (tap.ended ≡ true) × EndsWith (items.End ending) taken
@@ -91,7 +91,7 @@ abbrev pub ring_of : TapEnd → TapEnd → Network → TapEnd
 ring_of a b A = a
 ring_of a b B = b
 
--- what a fault says of both rings
+-- all that a fault says of both rings
 abbrev pub RingsFault : WatchFault → TapEnd → TapEnd → Type 0
 RingsFault fault a b = (network : Network) × TapFault network fault (ring_of a b network)
 

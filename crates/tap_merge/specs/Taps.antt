@@ -49,7 +49,7 @@ MergesAll network [] old new m m' = (new ≡ old) × (m' ≡ m)
 MergesAll network (f ∷ fs) old new m m' =
     (mid : Reading) × MergesFrame network f old mid m × MergesAll network fs mid new (fetched m f) m'
 
--- what comes next of a reader was merged: frames, at least one, or the recording's ending
+-- the next of a reader was merged: frames, at least one, or the recording's ending
 abbrev pub Merges : Network → Option Ending → Reading → Reading → MergerState → MergerState → Type 0
 Merges network None old new m m' = (f : Frame) × (fs : List Frame) × MergesAll network (f ∷ fs) old new m m'
 Merges network (Some ending) old new m m' =
@@ -73,7 +73,7 @@ abbrev pub StandsAt : Option Ending → Position → Told → Option (List ℕ) 
 StandsAt None q told left reading = (reading.position ≡ q) × (reading.remaining ≡ left) × (reading.told ≡ told)
 StandsAt (Some ending) q told left reading = Ends q told left reading.remaining ending
 
--- what a reader has read of a source: these frames, and the ending where it has come to it
+-- all that a reader has read of a source: these frames, and the ending where it has come to it
 pub record HasRead (network : Network) (late : ℕ) (before : SourceView) (frames : List Frame) (end : Option Ending) (reading : Reading) : Type 0 where
   pub position : Position
   pub left : Option (List ℕ)

@@ -24,7 +24,7 @@ pub record IsStarted (network : Network) (late : ℕ) (before : SourceView) (rea
   pub going : reading.position.stage ≡ Going
   pub most : reading.position.most ≡ most_frames
 
--- what is promised of a tap, however it is read
+-- the promise of a tap, however it is read
 abbrev pub promise_of : {S : Type 0} → TapFeed S → Feeding S
 promise_of (Thread thread) = thread.promise
 promise_of (Local tap) = tap.promise
@@ -34,7 +34,7 @@ abbrev pub IsFeeding : {S : Type 0} → SourceMembers S → TapFeed S → Type 0
 IsFeeding s (Thread thread) = ⊤
 IsFeeding s (Local tap) = HasPut s tap.promise.reader.value tap.promise.put.value tap.fed
 
--- what was promised of a tap is kept still
+-- the promise of a tap is kept still
 pub record KeepsFeeding {S : Type 0} (s : SourceMembers S) (old new : TapFeed S) : Type 0 where
   pub promise : promise_of new ≡ promise_of old
   pub feeding : IsFeeding s new

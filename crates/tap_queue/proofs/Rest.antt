@@ -10,7 +10,7 @@ use Rattle.tap_queue.specs.declared.item.Batch.{Batch}
 use Rattle.tap_queue.specs.declared.item.TapItem.{TapItem}
 use Rattle.tap_queue.specs.declared.item.TapItem.TheVariants.{Frame as frame}
 
--- what comes before the rest
+-- all that comes before the rest
 pub taken_is : (batches : List Batch) (taken rest : List TapItem) → items_in batches ≡ taken ++ rest → taken_of batches rest ≡ taken
 taken_is batches taken rest all =
     let size : length (items_in batches) - length rest ≡ length taken = omega (arith, ap length all, length-append taken rest) in
@@ -62,7 +62,7 @@ some_left batches before known sent after rest same fifo sent_is kept some all =
     let each = at_least known in
     absurd (omega (arith, parts, two, ends, equal, each, some, length-append (items_in batches) (items_in known), length-append (taken_of batches rest) rest))
 
--- what was taken is the first of what was put
+-- the items taken are the first of those put
 pub first_taken : (batches before known sent after : List Batch) (rest : List TapItem) → before ≡ batches → before ++ known ≡ after → after ≡ sent
     → IsRest batches rest → items_in sent ≡ taken_of batches rest ++ (rest ++ items_in known)
 first_taken batches before known sent after rest same fifo sent_is kept =

@@ -154,7 +154,7 @@ frames_all (frame g ∷ items) fs = ap (λ (l : List Frame). g ∷ l) (frames_al
 frames_all (End e ∷ items) fs = frames_all items fs
 frames_all (Failed fault ∷ items) fs = frames_all items fs
 
--- ---- what was given together
+-- ---- all that was given together
 
 pub frames_follow : (network : Network) (late : ℕ) (before : List TapItem) (taken : TapBatch) (batch : BatchState) → taken ≡ batches.Frames batch → is_over before ≡ false
     → AreNextFrames network late (frames_in before) (batch_frames batch) → AreNextItems network late before taken

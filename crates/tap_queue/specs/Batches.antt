@@ -29,7 +29,7 @@ taken_of batches rest = take (length (items_in batches) - length rest) (items_in
 abbrev pub IsRest : List Batch → List TapItem → Type 0
 IsRest batches rest = items_in batches ≡ taken_of batches rest ++ rest
 
--- what was given together may follow these items of a network: they have not come to an end, and each frame is the next
+-- items given together may follow these of a network: they have not come to an end, and each frame is the next
 abbrev pub AreNextItems : Network → ℕ → List TapItem → TapBatch → Type 0
 AreNextItems network late before (Frames batch) = (is_over before ≡ false) × AreNextFrames network late (frames_in before) (batch_frames batch)
 AreNextItems network late before (End e) = is_over before ≡ false

@@ -15,7 +15,7 @@ use Rattle.tap_queue.specs.declared.item.TapBatch.TheVariants as batches
 use Rattle.tap_queue.specs.declared.item.TapItem.{TapItem}
 use Rattle.tap_queue.specs.declared.item.TapItem.TheVariants.{Frame as frame, End, Failed}
 
--- ---- what a reader gives
+-- ---- all that a reader gives
 
 -- a call of a reader, which stands so before it and so after it, gives the item
 abbrev pub GivesOne : Reading → TapItem → Reading → Type 0
@@ -46,7 +46,7 @@ abbrev pub IsFed : Reading → List TapItem → Reading → Type 0
 IsFed before items after =
     (more : List TapItem) × Gives before (items ++ more) after × (more ≡ [] → is_over items ≡ true)
 
--- ---- what is known of the items by themselves
+-- ---- all that is known of the items by themselves
 
 -- the frames among the items, in order
 abbrev pub frames_in : List TapItem → List Frame
@@ -85,15 +85,15 @@ IsLoss network late before after =
 abbrev pub ring_lost : RingLost
 ring_lost = record {}
 
--- ---- what a reader gives together
+-- ---- all that a reader gives together
 
--- what a call of a reader gave
+-- all that a call of a reader gave
 abbrev pub batch_from : Result Batched ReadFault → TapBatch
 batch_from (Ok (given.Frames batch)) = batches.Frames batch
 batch_from (Ok (given.End e)) = batches.End e
 batch_from (Err fault) = batches.Failed fault
 
--- what was given together, item by item
+-- all that was given together, item by item
 abbrev pub items_of : TapBatch → List TapItem
 items_of (batches.Frames batch) = frame_items (batch_frames batch)
 items_of (batches.End e) = End e ∷ []

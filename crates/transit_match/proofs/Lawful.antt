@@ -220,7 +220,7 @@ same_may same window x y a moments keys may = rw (← moments, ← keys) may
 turned_round : {K : Type 0} (rows others : List (Row K)) → SameFrames rows others → SameFrames others rows
 turned_round rows others frames = (sym frames.0, λ i x y a b. let parts = frames.1 i y x b a in (sym parts.0, sym parts.1))
 
--- what came before in one list did so in the other, where the pairs below are the same
+-- a pair that came before in one list did so in the other, where the pairs below are the same
 come_too : {K : Type 0} (rows others : List (Row K)) (j : ℕ) → ((m : ℕ) → m < j → (i : ℕ) → IsPairAt rows i m → IsPairAt others i m) →
     (i : ℕ) (x y : Row K) → slice_get rows i ≡ Some x → slice_get others i ≡ Some y → came_before x.partner j ≡ true → came_before y.partner j ≡ true
 come_too {K} rows others j below i x y at_x at_y come =

@@ -6,7 +6,7 @@ use Rattle.transit_match.specs.Pairing.{Row, Arrival, IsFirst, IsPairing, may_be
 use Rattle.transit_match.specs.Waiting.{IsAfter, entered, entry_of, may_take, paired}
 use Rattle.transit_match.proofs.Lists.{all_at, get_cases, get_last, get_left, left_false}
 
--- ---- what a frame that comes out does to each row
+-- ---- all that a frame that comes out does to each row
 
 abbrev pub given : {K : Type 0} → ℕ → Row K → Row K
 given n row = record row { partner = Some n }
@@ -88,7 +88,7 @@ length-paired {K} same window a n (x ∷ xs) =
     cond_both (may_take same window a (entry_of x)) (given n x ∷ xs) (x ∷ paired same window a n xs)
     (λ (after : List (Row K)). length after ≡ suc (length xs)) (λ _. refl) (λ _. ap suc (length-paired same window a n xs))
 
--- what the row was
+-- the row as it was
 pub was : {K : Type 0} (same : K → K → Bool) (window : ℕ) (a : Arrival K) (n : ℕ) (rows : List (Row K)) (place : ℕ) (new : Row K) →
     slice_get (paired same window a n rows) place ≡ Some new →
     (row : Row K) × (slice_get rows place ≡ Some row) × Turned same window a n rows (paired same window a n rows) place row new

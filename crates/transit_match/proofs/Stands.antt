@@ -186,7 +186,7 @@ stands_forgotten {K} same window floor moment e before entries rows arrivals eq 
     let t = stands_later same window floor moment before rows arrivals s below in
     first_of same window moment e entries rows arrivals t.forgotten t.kept t.pairing t.all t.over (sym eq ∙ t.entries_are) h
 
--- ---- what is asked of what is kept is asked of all that went in
+-- ---- a question about the kept frames is one about all that went in
 
 fits_past : {K : Type 0} (same : K → K → Bool) (window floor : ℕ) (a : Arrival K) (x : Row K) →
     is_over window floor x.moment ≡ true → floor ≤ a.moment → fits same window a (entry_of x) ≡ false
@@ -284,7 +284,7 @@ pub first_over : {K : Type 0} (window moment : ℕ) (entries : List (Entry K)) (
 first_over window moment [] e h g = absurd (omega arith)
 first_over {K} window moment (x ∷ entries) e h g = ap (λ (y : Entry K). is_over window moment y.moment) (sym g)
 
--- what is left without the first, where that is over
+-- all that is left without the first, where that is over
 pub stands_popped : {K : Type 0} (same : K → K → Bool) (window floor moment : ℕ) (entries : List (Entry K)) (rows : List (Row K))
     (arrivals : List (Arrival K)) → starts_over window moment entries ≡ true → StandsAfter same window floor entries rows arrivals →
     floor ≤ moment → StandsAfter same window moment (drop 1 entries) rows arrivals

@@ -5,7 +5,7 @@ use Rattle.transit_match.specs.declared.waiting.Entry.{Entry}
 use Rattle.transit_match.specs.declared.waiting.Waiting.{Waiting}
 use Rattle.transit_match.specs.Pairing.{Row, Arrival, IsPairing, is_within}
 
--- what is kept of a frame that went in
+-- the entry of a frame that went in
 abbrev pub entry_of : {K : Type 0} → Row K → Entry K
 entry_of row = record { moment = row.moment; place = row.place; key = row.key; taken = is_some row.partner }
 

@@ -81,7 +81,7 @@ split_debt most a b debt p t price = same_test _ _
           lt-ltb (most + a) (((debt - b) + p) + t + price) (omega arith)
     ])
 
--- what a charge leaves is enough where the whole and the cap are, or the credit alone is
+-- the rest after a charge is enough where the whole and the cap are, or the credit alone is
 split_low : (low cap a b p t price slack : ℕ) →
     nat_le (t + price + slack) ((min (low + b) cap - p) + a)
     ≡ ((nat_le ((p + t) + price + slack) (low + (b + a)) && nat_le ((p + t) + price + slack) (cap + a)) || nat_le (t + price + slack) a)
@@ -234,7 +234,7 @@ judged account from charges moment price s h =
     ∙ ap (λ (n : ℕ). nat_le (price + account.slack) (low_after account.smax account.cap 0 from charges + account.smax * (moment - n))) s.since_is
     ∙ sure_decides account.smax account.cap account.slack moment price from charges s.in_order later)
 
--- what a charge leaves
+-- all that a charge leaves
 pub stands_charged : (account after : Observed) (from : ℕ) (charges : List Charge) (moment price : ℕ) → StandsAfter account from charges →
     account.since ≤ moment → after.smax ≡ account.smax → after.cap ≡ account.cap → after.since ≡ moment →
     after.low ≡ min (account.low + account.smax * (moment - account.since)) account.cap - price →

@@ -75,7 +75,7 @@ columns j =
     + one (is_class Unconfigured j.class) + one (is_class TooLong j.class)
     + one (is_excess j) + one (is_out j) + one (is_copy j) + one (is_delivered j)
 
--- of those of a link's line
+-- the column among those of a link's line
 abbrev link_columns : Judgement → ℕ
 link_columns j = one (is_class TooLong j.class) + one (is_excess j) + one (is_out j) + one (is_copy j) + one (is_delivered j)
 
@@ -107,7 +107,7 @@ link_by_class Regular p i r on a b d = omega (arith, one_judged p i r a b d)
 one_link_column : (j : Judgement) → is_on_a_link j.class ≡ true → IsReached j → link_columns j ≡ 1
 one_link_column j on h = link_by_class j.class j.policing j.integrity j.redundancy on h.policing h.integrity h.redundancy
 
--- ---- those of all entries
+-- ---- the columns of all entries
 
 count_more : (p : Entry → Bool) (e : Entry) (es : List Entry) → count_by p (e ∷ es) ≡ one (p e) + count_by p es
 count_more p e es = sum_by-cons (λ y. one (p y)) e es

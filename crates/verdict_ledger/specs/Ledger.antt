@@ -10,7 +10,7 @@ use Rattle.verdict_ledger.specs.declared.tally.Tally.{Tally}
 use Rattle.verdict_ledger.specs.declared.totals.Totals.{Totals}
 use Rattle.verdict_ledger.specs.declared.link_counts.LinkCounts.{LinkCounts}
 
--- what it writes to
+-- the sink that it writes to
 abbrev pub sink_of : {W : Type 0} → Ledger W → W
 sink_of ledger = ledger.spool.sink
 
@@ -22,16 +22,16 @@ has_failed ledger = ledger.failed
 abbrev pub totals_in : {W : Type 0} → Ledger W → Totals
 totals_in ledger = ledger.tally.totals
 
--- those, and the counts of each link
+-- the totals, and the counts of each link
 abbrev pub tally_in : {W : Type 0} → Ledger W → Tally
 tally_in ledger = ledger.tally
 
--- what it wrote to, whether it stands or gave its sink back
+-- the sink that it wrote to, whether it stands or gave that back
 abbrev pub begun_sink : {W : Type 0} → Result (Ledger W) (LedgerRefused W) → W
 begun_sink (Ok ledger) = sink_of ledger
 begun_sink (Err refused) = refused.sink
 
--- what a ledger that is finished wrote to, whatever counts it gave
+-- the sink that a finished ledger wrote to, whatever counts it gave
 abbrev pub finished_sink : {W T : Type 0} → Result (W × T) (LedgerRefused W) → W
 finished_sink (Ok finished) = finished.0
 finished_sink (Err refused) = refused.sink

@@ -44,7 +44,7 @@ found_nowhere (l ∷ ls) id none =
     rw (test_false l.id.0 id (none 0 l (omega arith)))
     (found_nowhere ls id (λ k d h. none (suc k) d (omega arith)))
 
--- what a binary search answers, on a slice of the links
+-- the answer of a binary search, on a slice of the links
 pub search_found : (links slice : List VirtualLink) (id place : ℕ) (item : VirtualLink) → slice ≡ links → IsDistinct has_same_id links →
     place < length slice → ((d : VirtualLink) → nat_cmp (get_or slice place d).id.0 id ≡ Equal) → item ≡ get_or links place item →
     Some item ≡ find (λ link. link.id.0 == id) links

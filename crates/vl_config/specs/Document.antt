@@ -122,7 +122,7 @@ pub record VlTable : Type 0 where
   pub late : ℕ
   pub filters : List (List ℕ)
 
--- what each table keeps: at most 4096 links by rising identifier, no two of one identifier, a lateness of at most 1 s, and at most 7 filters
+-- the bounds of each table: at most 4096 links by rising identifier, no two of one identifier, a lateness of at most 1 s, and at most 7 filters
 pub record IsVlTable (vl_table : VlTable) : Type 0 where
   pub rising : IsNonDecreasingBy (λ link. link.id.0) vl_table.links
   pub distinct : IsDistinct has_same_id vl_table.links

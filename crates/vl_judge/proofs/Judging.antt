@@ -97,7 +97,7 @@ verdict_in_lane lane links constant earlier frame id verdict e knows says = rw e
     told None k = absurd k
     told (Some link) k = says link k
 
--- ---- what each lane knows
+-- ---- all that each lane knows
 
 pub knows_stopped : (o : Option Lane) (l : Option VirtualLink) (earlier : List Judged) (frame : Frame) (class : Class) →
     Knows o l earlier → Knows o l (earlier ++ record { frame = frame; verdict = stopped_verdict class } ∷ [])

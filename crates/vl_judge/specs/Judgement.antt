@@ -47,7 +47,7 @@ judgement class policing integrity redundancy =
     else record { class = class; policing = Some policing; integrity = None; redundancy = None })
     else stopped_verdict class
 
--- ---- what becomes of the frame
+-- ---- the frame's fate
 
 abbrev pub is_excess_policing : Policing → Bool
 is_excess_policing Excess = true

@@ -43,7 +43,7 @@ size_of frame = frame.whole + 4
 abbrev pub sequence_number : Frame → ℕ
 sequence_number frame = unwrap_or (sequence_of frame.bytes) 0
 
--- ---- what reached each judgement
+-- ---- all that reached each judgement
 
 abbrev pub policed_entry : VlId → Network → Judged → Option policing.Entry
 policed_entry id network j =

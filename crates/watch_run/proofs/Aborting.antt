@@ -171,7 +171,7 @@ goes_on_after network late before after given whole bytes ending s known r =
           none_behind frames on.others (sym (append-nil frames) ∙ ap (λ (l : List Frame). frames ++ l) (sym (all.ended refl).0) ∙ sym all.all ∙ on.all)),
     )
 
--- ---- what was cut is the first of all
+-- ---- the frames cut are the first of all
 
 both_none : (xs ys : List Frame) → xs ≡ [] → ys ≡ [] → xs ++ ys ≡ []
 both_none xs ys none also = ap (λ (l : List Frame). l ++ ys) none ∙ also

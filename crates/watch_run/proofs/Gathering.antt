@@ -25,7 +25,7 @@ none_written ps entries none = record {
   lines_are = none.lines_are;
 }
 
--- what is written of some frames, and then of more
+-- all that is written of some frames, and then of more
 pub both_written : (ps : Making) (fs gs : List Frame) (vs ws : List Judgement) (first more both : Entries) → length vs ≡ length fs →
     AreEntries ps fs vs first → AreEntries ps gs ws more → AreJoined first more both → AreEntries ps (fs ++ gs) (vs ++ ws) both
 both_written ps fs gs vs ws first more both judged one two joined =

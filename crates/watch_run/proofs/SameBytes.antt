@@ -35,7 +35,7 @@ one_source network late told also_told one other bytes fs gs e d alike is also h
     (subst (λ (t : Told). IsRecording network late t bytes fs e) alike (subst (λ (o : Option (List ℕ)). IfSome o (λ known. IsRecording network late told known fs e)) is h))
     (subst (λ (o : Option (List ℕ)). IfSome o (λ known. IsRecording network late also_told known gs d)) also k)
 
--- what a sink of known bytes holds after it took some
+-- all that a sink of known bytes holds after it took some
 holds_both : (old : List ℕ) (after : Option (List ℕ)) (bytes : List ℕ) → Appends (Some old) after bytes → after ≡ Some (old ++ bytes)
 holds_both old None bytes h = absurd h
 holds_both old (Some all) bytes h = ap (λ (l : List ℕ). Some l) h

@@ -47,7 +47,7 @@ recorded network late told bytes frames ending r =
 ok_is : (l m : Layout) (r : Result Layout HeaderFault) → r ≡ Ok l → r ≡ Ok m → l ≡ m
 ok_is l m r e f = cc (sym e ∙ f)
 
--- what is known of a recording whose bytes are known: it goes on after the frames that were read, unless it has ended
+-- a recording whose bytes are known goes on after the frames that were read, unless it has ended
 pub record GoesOn (frames whole : List Frame) (end : Option Ending) (ending : Ending) : Type 0 where
   pub others : List Frame
   pub all : whole ≡ frames ++ others
@@ -72,7 +72,7 @@ goes_on network late before frames whole (Some e) reading bytes ending known rea
     let same = one_holds (start_at network r.layout most_frames late) before.told (drop FILE_HEADER_LEN bytes) frames whole e ending holds r.holds in
     record { others = []; all = sym same.0 ∙ sym (append-nil frames); ended = λ is. (refl, ap (λ (x : Ending). Some x) same.1) }
 
--- ---- what was cut
+-- ---- all that was cut
 
 reads_late : (p q : Position) (before after : Option (List ℕ)) (frames : List Frame) → Reads p before frames q after → q.late ≡ p.late
 reads_late p q before after [] (same, left) = ap (λ (x : Position). x.late) (sym same)

@@ -21,7 +21,7 @@ pub record AreNone (entries : Entries) : Type 0 where
   pub packets_are : entries.packets.items ≡ []
   pub lines_are : entries.lines.items ≡ []
 
--- what is written of these frames, of which these are the verdicts
+-- all that is written of these frames, of which these are the verdicts
 pub record AreEntries (ps : Making) (frames : List Frame) (verdicts : List Judgement) (entries : Entries) : Type 0 where
   pub keeps_are : entries.keeps.items ≡ map (keep_by ps.filters) frames
   pub masks_are : entries.masks.items ≡ map (mask_by ps.filters) frames

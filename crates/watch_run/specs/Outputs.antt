@@ -24,7 +24,7 @@ use Rattle.watch_run.specs.declared.outputs.Outputs.{Outputs}
 use Rattle.watch_run.specs.declared.shared.JudgedRound.{JudgedRound}
 use Rattle.worker_pool.specs.Chunks.{Posted}
 
--- what a fault of the ledger is to a run
+-- the run's fault by a fault of the ledger
 abbrev pub ledger_fault : LedgerFault → WatchFault
 ledger_fault ledger_faults.Device = watch.Write output.Ledger
 ledger_fault ledger_faults.Memory = watch.Memory
@@ -34,7 +34,7 @@ ledger_fault ledger_faults.Failed = watch.Write output.Ledger
 abbrev pub outputs_of : {W L : Type 0} → LanesState → CaptureWriter W → Ledger L → Outputs W L
 outputs_of lanes capture ledger = record { lanes = lanes; capture = capture; ledger = ledger }
 
--- what a fault leaves of the outputs: what a worker made and was lost leaves what no memory leaves
+-- the effect of a fault on the outputs: a worker's lost batch leaves what no memory leaves
 abbrev pub effect_of : WatchFault → WatchFault
 effect_of watch.RingLost = watch.Memory
 effect_of fault = fault

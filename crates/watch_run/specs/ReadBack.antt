@@ -25,7 +25,7 @@ use Rattle.vl_config.specs.Document.{VlTable}
 use Rattle.vl_config.specs.Link.{VirtualLink, is_name}
 use Rattle.vl_judge.specs.Verdicts.{verdicts}
 
--- ---- what is written
+-- ---- all that is written
 
 -- the identifier of a link has 16 bits, and its name is one
 pub record IsNamed (link : VirtualLink) : Type 0 where
@@ -40,7 +40,7 @@ pub record AreWritable (links : List VirtualLink) (entries : List Entry) (a b : 
   pub few_a : frames_before a < 2 ^ 64
   pub few_b : frames_before b < 2 ^ 64
 
--- ---- what its lines say
+-- ---- all that its lines say
 
 -- a line of counts of each link and of each filter, two of taps, and the total
 abbrev pub counts_lines : List VirtualLink → List ℕ → List LedgerLine

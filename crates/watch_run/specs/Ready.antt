@@ -51,7 +51,7 @@ pub record IsStartedOf {S T W L : Type 0} (ready : Ready S T W L) (running : Run
   pub put_a : (promise_of running.feeds.a).put.value ≡ ready.put_a
   pub put_b : (promise_of running.feeds.b).put.value ≡ ready.put_b
 
--- what a run that was ready comes to
+-- the outcome of a run that was ready
 abbrev pub Runs : {S T W L : Type 0} → SourceMembers S → SourceMembers T
     → SinkMembers W → SinkMembers L
     → Making → Ready S T W L → Result (Watched S T W L) (WatchRefused S T W L) → Type 0
@@ -78,7 +78,7 @@ pub record AreTwoRings (late : ℕ) (ends : (TapPut × TapEnd) × (TapPut × Tap
   pub late_a : late_of ends.0.1 ≡ late
   pub late_b : late_of ends.1.1 ≡ late
 
--- what is ready, by its parts
+-- all that is ready, by its parts
 abbrev pub ready_of : {S T W L : Type 0} → TapPut → TapEnd → TapPut → TapEnd → Taps S T → Outputs W L → Ready S T W L
 ready_of put_a a put_b b taps outputs = record {
   a = taps.a;

@@ -99,7 +99,7 @@ pub record Steps {W L T : Type 0} (w : SinkMembers W) (l : SinkMembers L)
       IsSharing w l ps vl_table capture ledger before outputs flight →
       StopsRunning fault ps vl_table capture ledger after.a after.b (sink_at w (sink_of outputs'.capture)) (sink_at l (ledger_sink outputs'.ledger)))
 
--- ---- what is left of an aborted run
+-- ---- all that is left of an aborted run
 
 -- a source that is named failed once, and another may have
 abbrev pub MayFailWhere : Bool → ℕ → ℕ → Type 0
@@ -146,7 +146,7 @@ abbrev pub ComesBack : {S : Type 0} → TapEnd → Option S → Type 0
 ComesBack end None = has_lost end ≡ true
 ComesBack end (Some source) = has_lost end ≡ false
 
--- what is told of a run that is aborted: its fault, unless an item of a ring was lost, and a source with it
+-- the told fault of a run that is aborted: its own, unless an item of a ring was lost, and a source with it
 abbrev pub fault_told : Bool → Bool → WatchFault → WatchFault
 fault_told false false fault = fault
 fault_told lost_a lost_b fault = watch.RingLost

@@ -2,13 +2,14 @@
 
 use afdx_frame::Network;
 use filter_workers::RunGate;
+use frame_batch::Round;
 use run_fault::WatchFault;
 use tap_queue::TapGate;
 
 /// Is told how a run on threads gets on. No clause speaks of it.
 pub trait RunObserver {
-    /// So many frames more came of both recordings, in their one order, and are judged now.
-    fn judges(&self, _frames: usize) {}
+    /// These frames came next of both recordings, in their one order, and are judged now.
+    fn judges(&self, _round: &Round) {}
 
     /// Nothing came of the recordings for some milliseconds. What is safe was handed to the sinks. Told again
     /// and again until something comes.

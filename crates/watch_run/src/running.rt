@@ -97,7 +97,7 @@ fn write_next<'a, R: Wait, W: OutSink, L: OutSink, G: RunGate + RunObserver + Sy
 {
     match rings.next_round(rt, round_len) {
         Ok(Some(round)) => {
-            gate.judges(round.len());
+            gate.judges(&round);
             outputs.share_round(rt, pool, flight, round, entries)?;
             Ok(true)
         }

@@ -29,7 +29,7 @@ module _ {T N B : Type 0} (p : Posted T N) (w : Waiting T N B) (room : ℕ) (ask
   pub one_more_room : (ws more : List (Waiting T N B)) → more ≡ ws ++ w ∷ [] → sum_by room_asked more ≡ sum_by room_asked ws + room
   one_more_room ws more is = ap (sum_by room_asked) is ∙ (sum_by_push room_asked ws w ∙ ap (λ r. sum_by room_asked ws + r) room_is)
 
--- what holds of each element, of all but the last one and of that
+-- a claim on each element, of all but the last one and of that
 but_last : {X : Type 0} (P : X → Type 0) (xs : List X) (x : X) → All P (xs ++ x ∷ []) → All P xs × P x
 but_last P [] x all = (All-nil P, All-head P x [] all)
 but_last P (y ∷ ys) x all =
@@ -52,7 +52,7 @@ module _ {T N B : Type 0} (p : Posted T N) (ws rest : List (Waiting T N B)) (w :
   pub others_room : sum_by room_asked ws ≡ sum_by room_asked rest + room_asked w
   others_room = ap (sum_by room_asked) last ∙ sum_by_push room_asked rest w
 
-  -- what the worker hands back is the share that it was asked for
+  -- the worker hands back the share that it was asked for
   pub waited_share : (len : T → N → ℕ) (is : T → N → ℕ → ℕ → B → Type 0) (s : Share B)
       → IfSome (asked_share (received w.replies)) (λ (q : Question T N). IsShare len is q.posted q.room s)
       → IsShare len is p (room_asked w) s

@@ -15,7 +15,7 @@ module _ {T N B : Type 0} where
   abbrev pub IsAsked : Posted T N → Waiting T N B → Type 0
   IsAsked p w = asked_share (received w.replies) ≡ Some (question p (room_asked w))
 
--- what contracts see of a pool: what it was started for, how many threads share a round, the calling one among them, and the most items of
+-- the view of a pool: what it was started for, how many threads share a round, the calling one among them, and the most items of
 -- a chunk
 pub record PoolView (T : Type 0) : Type 0 where
   pub task : T

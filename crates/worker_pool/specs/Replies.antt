@@ -5,7 +5,7 @@ use Rattle.worker_pool.specs.Shares.{IsShare}
 use Rattle.worker_pool.specs.declared.reply.Reply.{Reply}
 use Rattle.worker_pool.specs.declared.reply.Reply.TheVariants.{Asked, Answered}
 
--- what a seat is to do: claim chunks of this round, with this room
+-- the task of a seat: claim chunks of this round, with this room
 pub record Question (T N : Type 0) : Type 0 where
   pub posted : Posted T N
   pub room : ℕ
@@ -14,7 +14,7 @@ abbrev pub question : {T N : Type 0} → Posted T N → ℕ → Question T N
 question posted room = record { posted = posted; room = room }
 
 module _ {T N B : Type 0} where
-  -- what was asked first
+  -- the question that was asked first
   abbrev pub asked_share : List (Reply T N B) → Option (Question T N)
   asked_share [] = None
   asked_share (Asked ask ∷ rest) = Some (question ask.posting.value ask.seat.value.room)

@@ -5,12 +5,13 @@ use command_line::{Exit, Fault, WatchArguments, fault_line, version};
 use pcap_io::Ending;
 use run_manifest::{
     FileRecord, Inputs, MANIFEST_VERSION, Manifest, Outputs, Program, RecordingRecord, Span, Sum,
-    manifest_text,
+    TornRecord, manifest_text,
 };
 use std::alloc::{AllocError, Global};
 use std::io;
 use std::io::{ErrorKind, Write};
-use tap_inputs::{Blocks, Cause, Outcome, Tap, Taps};
+use tap_inputs::{Blocks, Cause, Outcome, Tap, TapEnd, Taps};
+use traffic_survey::Traffic;
 
 /// The sums of the texts that a run is given.
 #[derive(Clone, Copy)]
@@ -19,29 +20,37 @@ pub struct TextSums {
     pub filter: Option<Sum>,
 }
 
-/// The sums of a run's recordings, where they are known, and outputs, and when frames came.
+/// The knowledge of a run's recordings, where it is had, the sums of its outputs, and when frames came.
 #[derive(Drop)]
-pub struct RunSums {
-    recordings: [Option<Vec<Sum>>; 2],
+pub struct RunSums<'t> {
+    recordings: [Option<TapEnd>; 2],
+    /// The counts of what the frames carry, if they were counted.
+    traffic: Option<Traffic<'t>>,
     outputs: [Sum; 2],
     spans: [Option<Span>; 2],
 }
 
-impl RunSums {
+impl<'t> RunSums<'t> {
     /// Of the recordings of networks A and B, of the capture and the ledger, and of what was seen of that.
     pub fn new(
-        recordings: [Option<Vec<Sum>>; 2],
+        recordings: [Option<TapEnd>; 2],
         outputs: [Sum; 2],
         spans: Option<Spans>,
-    ) -> RunSums {
+    ) -> RunSums<'t> {
         RunSums {
             recordings,
+            traffic: None,
             outputs,
             spans: match spans {
                 Some(spans) => [spans.a, spans.b],
                 None => [None, None],
             },
         }
+    }
+
+    /// The same, with what the frames carry.
+    pub fn with_traffic(self, traffic: Option<Traffic<'t>>) -> RunSums<'t> {
+        RunSums { traffic, ..self }
     }
 }
 
@@ -61,9 +70,12 @@ fn record_of(
     alloc: Global,
     path: &str,
     tap: &Tap,
-    sums: &Option<Vec<Sum>>,
+    end: &Option<TapEnd>,
 ) -> Result<RecordingRecord, AllocError> {
-    let sums = sums.as_deref().unwrap_or(&[]);
+    let sums = match end {
+        Some(end) => end.sums.as_slice(),
+        None => &[],
+    };
     if !tap.is_of_several() {
         return RecordingRecord::new(alloc, path, sums.first().copied());
     }
@@ -74,20 +86,69 @@ fn record_of(
     Ok(record)
 }
 
+/// Adds the torn files of a recording.
+fn add_torn(
+    rt: &HostRuntime,
+    record: &mut RecordingRecord,
+    tap: &Tap,
+    end: &TapEnd,
+) -> Result<(), AllocError> {
+    for number in 0..tap.files.len() {
+        if let Some(file) = tap.torn_file(rt, end, number) {
+            let (alloc, how) = (rt.alloc(), file.how.word());
+            record.add_torn(
+                alloc,
+                TornRecord::new(alloc, file.path, how, file.last, file.next)?,
+            )?;
+        }
+    }
+    Ok(())
+}
+
+/// Adds what the frames of a network carry beside what the ledger tells.
+fn add_traffic(
+    alloc: Global,
+    record: &mut RecordingRecord,
+    traffic: &Traffic<'_>,
+    network: Network,
+) -> Result<(), AllocError> {
+    record.tagged = Some(traffic.tagged(network));
+    let kinds = traffic.kinds(network);
+    for kind in kinds.kinds() {
+        record.add_kind(alloc, Some(kind.ethertype), kind.name(), kind.frames)?;
+    }
+    if kinds.others() > 0 {
+        record.add_kind(alloc, None, None, kinds.others())?;
+    }
+    for link in traffic.crossed(alloc, network)? {
+        let span = Span {
+            first: link.first,
+            last: link.last,
+        };
+        record.add_crossed(alloc, link.link.0, (link.frames, link.of), span)?;
+    }
+    Ok(())
+}
+
 /// A recording, with its ending and when its frames came, where the run met no fault.
 fn recording_if(
-    alloc: Global,
+    rt: &HostRuntime,
     (path, tap): (Option<&str>, &Tap),
-    (sums, dropped): (&Option<Vec<Sum>>, u64),
+    end: &Option<TapEnd>,
     ending: Option<Ending>,
     span: Option<Span>,
 ) -> Result<Option<RecordingRecord>, AllocError> {
     let Some(path) = path else {
         return Ok(None);
     };
-    let mut record = record_of(alloc, path, tap, sums)?;
+    let alloc = rt.alloc();
+    let mut record = record_of(alloc, path, tap, end)?;
+    let dropped = tap.dropped(rt);
     if dropped > 0 {
         record.dropped = Some(dropped);
+    }
+    if let Some(end) = end {
+        add_torn(rt, &mut record, tap, end)?;
     }
     let Some(ending) = ending else {
         return Ok(Some(record));
@@ -108,29 +169,38 @@ fn inputs_of(
     (given, taps): (&WatchArguments<'_>, &Taps),
     texts: TextSums,
     exit: &Exit,
-    sums: &RunSums,
+    sums: &RunSums<'_>,
 ) -> Result<Inputs, AllocError> {
     let alloc = rt.alloc();
     let (end_a, end_b) = match exit {
         Exit::Watched(summary) => (Some(summary.a), Some(summary.b)),
         _ => (None, None),
     };
-    let ([sums_a, sums_b], [span_a, span_b]) = (&sums.recordings, sums.spans);
+    let ([of_a, of_b], [span_a, span_b]) = (&sums.recordings, sums.spans);
     let a = (given.a, taps.of_network(Network::A));
     let b = (given.b, taps.of_network(Network::B));
-    let [dropped_a, dropped_b] = taps.dropped(rt);
+    let mut a = recording_if(rt, a, of_a, end_a, span_a)?;
+    let mut b = recording_if(rt, b, of_b, end_b, span_b)?;
+    if let (Some(traffic), Exit::Watched(_)) = (&sums.traffic, exit) {
+        if let Some(record) = &mut a {
+            add_traffic(alloc, record, traffic, Network::A)?;
+        }
+        if let Some(record) = &mut b {
+            add_traffic(alloc, record, traffic, Network::B)?;
+        }
+    }
     Ok(Inputs {
         config: FileRecord::new(alloc, given.config, texts.config)?,
         filter: file_if(alloc, given.filter, texts.filter)?,
-        a: recording_if(alloc, a, (sums_a, dropped_a), end_a, span_a)?,
-        b: recording_if(alloc, b, (sums_b, dropped_b), end_b, span_b)?,
+        a,
+        b,
     })
 }
 
 fn outputs_of(
     alloc: Global,
     given: &WatchArguments<'_>,
-    sums: &RunSums,
+    sums: &RunSums<'_>,
 ) -> Result<Outputs, AllocError> {
     let [capture, ledger] = sums.outputs;
     Ok(Outputs {
@@ -160,7 +230,7 @@ fn text_for(
     (given, taps): (&WatchArguments<'_>, &Taps),
     texts: TextSums,
     exit: &Exit,
-    sums: &RunSums,
+    sums: &RunSums<'_>,
 ) -> io::Result<String> {
     let alloc = rt.alloc();
     let manifest = Manifest {
@@ -185,7 +255,7 @@ pub fn with_manifest(
     (given, taps): (&WatchArguments<'_>, &Taps),
     texts: TextSums,
     ended: Outcome,
-    sums: &RunSums,
+    sums: &RunSums<'_>,
     mut output: Blocks,
 ) -> Outcome {
     let text = text_for(rt, (given, taps), texts, &ended.exit, sums);

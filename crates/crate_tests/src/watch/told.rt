@@ -5,6 +5,7 @@ use crate::support::{SOUND, TABLE};
 use crate::watch::{Given, NO_FAILURE, NOT_FIRST, Scripts, Way, recording, run_past};
 use afdx_frame::Network;
 use filter_workers::RunGate;
+use frame_batch::Round;
 use pcap_io::Script;
 use run_fault::{Output, WatchFault};
 use std::process::Abort;
@@ -53,8 +54,8 @@ impl TapGate for Told {
 }
 
 impl RunObserver for Told {
-    fn judges(&self, frames: usize) {
-        self.judged.fetch_add(frames as u64, SeqCst);
+    fn judges(&self, round: &Round) {
+        self.judged.fetch_add(round.len() as u64, SeqCst);
     }
 
     fn aborts(&self, fault: WatchFault) {

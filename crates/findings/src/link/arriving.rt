@@ -167,7 +167,10 @@ impl LinkState {
         let alone = at - arrival.before;
         let is_long = |limit: Time| time >= limit && alone * 4 >= limit * 3;
         let pauses = beyond && self.rate.limit.is_some_and(is_long);
-        let common = matches!(kind, Some(Kind::Silence | Kind::ClockStep | Kind::Gap));
+        let common = matches!(
+            kind,
+            Some(Kind::Silence | Kind::ClockStep | Kind::Gap | Kind::Torn)
+        );
         if pauses && !common && self.twin_pauses(arrival.network, at) {
             self.note_outage(flight, Span { from, to: at })?;
         }
@@ -258,10 +261,10 @@ impl LinkState {
         Ok(())
     }
 
-    /// The first line of the networks that the link is on.
+    /// The first line of the networks on which the link was seen.
     fn start(&self, flight: &Flight) -> Time {
         let of = |network: Network| {
-            let is_on = self.redundancy || self.lane(network).frames > 0;
+            let is_on = self.lane(network).frames > 0;
             flight.networks.of(network).first.filter(|_| is_on)
         };
         match (of(Network::A), of(Network::B)) {

@@ -389,7 +389,7 @@ step_sound answer (events.Claim w) late a b s is = claim_sound s.round (slice_ge
 step_sound answer (events.Post w) late a b s is = post_sound answer s.round (slice_get s.workers w) w late a b s is refl
 step_sound answer events.Gather late a b s is = gather_sound s.round late a b s is refl
 
--- ---- what a call leaves
+-- ---- all that a call leaves
 
 pub stepped : {S : Type 0} (P : S → Type 0) (o : Option S) (old new : S) (happened : Bool) → IfSome o P → P old → Steps o old happened new → P new
 stepped P None old new happened h p t = subst P (sym t.1) p
@@ -459,7 +459,7 @@ output_is_all late a b s is = λ done.
 
 -- ---- answers
 
--- what leaves output and round leaves the answers
+-- a step that leaves output and round leaves the answers
 answers_same : (answer : Frame → ℕ) (s t : CoreState) → t.output ≡ s.output → t.round ≡ s.round → AnswersAre answer s → AnswersAre answer t
 answers_same answer s t e g h = record {
   output = subst (AllByRecursion (λ x. x.answer ≡ answer x.frame)) (sym e) h.output;

@@ -12,7 +12,7 @@ pub record SideState : Type 0 where
   pub marked : Bool
   -- the most items on the ring
   pub capacity : ℕ
-  -- what was put and not fetched, the oldest first
+  -- the items put and not fetched, the oldest first
   pub ring : List RingItem
 
 abbrev pub new_side : ℕ → List Frame → SideState

@@ -38,7 +38,7 @@ round_frames (Some r) = r.frames
 abbrev pub output_frames : List Answered → List Frame
 output_frames output = map (λ x. x.frame) output
 
--- those that were cut
+-- the frames that were cut
 abbrev pub given : CoreState → List Frame
 given s = output_frames s.output ++ round_frames s.round
 
@@ -46,7 +46,7 @@ given s = output_frames s.output ++ round_frames s.round
 abbrev pub held : CoreState → List Frame
 held s = (given s ++ s.merger.pending) ++ (coming s.a ++ coming s.b)
 
--- ---- what a user sees
+-- ---- all that a user sees
 
 -- The output is a prefix of the order of all frames.
 abbrev pub OutputIsPrefix : CoreState → Type 0

@@ -117,6 +117,6 @@ core_step answer s (events.Claim w) = claim_step w s
 core_step answer s (events.Post w) = post_step answer w s
 core_step answer s events.Gather = gather_step s
 
--- what the merger is given next of each network fits what it was given before
+-- the merger's next frames of each network fit those before
 abbrev pub FirstsCanFetch : CoreState → Type 0
 FirstsCanFetch s = (network : Network) (f : Frame) (ring : List RingItem) → (side_of s network).ring ≡ items.Frame f ∷ ring → CanFetch s.merger f

@@ -60,7 +60,7 @@ same_text (x ∷ xs) (y ∷ ys) m n p q e =
     let text : x ∷ xs ≡ y ∷ ys = let tail : xs ≡ ys = same.0 in cc in
     (text, same.1)
 
--- ---- what it says
+-- ---- all that it says
 
 abbrev code : List ℕ → ℕ
 code word = length word * 65536 + get_or word 0 0 * 256 + get_or word 1 0
@@ -176,7 +176,7 @@ none_is_no bytes e = true≢false (ap is_none e)
 same_bytes : (xs ys : List ℕ) → Some xs ≡ Some ys → ys ≡ xs
 same_bytes xs ys e = cc
 
--- what the bytes are that begin with others
+-- the bytes that begin with others
 consumed : (left after : Option (List ℕ)) (bytes xs : List ℕ) → left ≡ Some bytes → Consumes left after xs → (rest : List ℕ) × (bytes ≡ xs ++ rest)
 consumed None after bytes xs e h = absurd (none_is_no bytes e)
 consumed (Some ys) None bytes xs e h = absurd h

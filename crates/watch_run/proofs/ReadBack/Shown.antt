@@ -68,7 +68,7 @@ long_enough vl_table f h =
     let tests = neither (nat_lt (length f.bytes) f.whole) (nat_lt f.whole 60) _ h in
     omega (arith, ltb-false (length f.bytes) f.whole tests.0, ltb-false f.whole 60 tests.1)
 
--- what is written of it, where it is
+-- the word that is written of it, where it is
 where_addressed : {T : Type 0} (Fits : T → Type 0) (b : Bool) (value : Option T) → (b ≡ true → Optional Fits true value) → Optional Fits b (cond b value None)
 where_addressed Fits true value there = there refl
 where_addressed Fits false value there = record { present = refl; fits = tt }

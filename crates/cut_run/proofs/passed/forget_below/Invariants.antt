@@ -5,7 +5,7 @@ use Rattle.cut_run.specs.Passed.{passed_at}
 use Rattle.cut_run.specs.declared.place.SearchPlace.{SearchPlace}
 use Rattle.cut_run.proofs.passed.forget_below.Given as goal
 
--- what isn't below the place stands as at first
+-- each entry that isn't below the place stands as at first
 abbrev pub invariant-loop-place : goal.invariant-loop-place
 invariant-loop-place l = (q : SearchPlace) → (IsBelow q l.place → ⊥) → passed_at l.passed q ≡ passed_at l.fn.passed q
 

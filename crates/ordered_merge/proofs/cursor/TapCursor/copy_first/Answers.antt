@@ -12,7 +12,7 @@ use Rattle.ordered_merge.proofs.Buffers.{among_more, first_dropped, late_there, 
 use Rattle.ordered_merge.proofs.Rising.{leading_first, leading_rest, other_first, other_rest}
 use Rattle.ordered_merge.proofs.cursor.TapCursor.copy_first.Goals as goal
 
--- what is left at a cursor of this queue and these late frames
+-- all that is left at a cursor of this queue and these late frames
 left_at : (c : TapCursor) (queue : QueueCursor) (late : List Frame) → c.queue ≡ queue → late_left c ≡ late → tap_left c ≡ insert_frames late (cursor_left queue)
 left_at c queue late q l =
     ap (λ (k : QueueCursor). insert_frames (late_left c) (cursor_left k)) q
