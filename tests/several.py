@@ -17,7 +17,7 @@ import tempfile
 from tests import pairs
 from tests.analyser import watch
 from tests.blocks import Blocks
-from tests.harness import EVERY, FAULT, LINK5, SUCCESS, USAGE, difference, frame, header, record, run, run_at_terminal
+from tests.harness import EVERY, FAULT, LINK5, PROGRAM, SUCCESS, USAGE, difference, frame, header, record, run, run_at_terminal
 from tests.reference import FILE_STARTS, HEADER, LAYOUTS, MAX_CAPTURED, capture, parse
 from tests.texts import ADVICE, AMONG, UNREADABLE
 from tests.watching import REASONS, TABLE, AtADesk
@@ -137,8 +137,6 @@ THREE = [header() + b"".join(record(*one) for one in STEADY[first : first + 20])
 
 
 def desk_command(paths):
-    from harness import PROGRAM
-
     return [PROGRAM, "capture", "--code", EVERY, *paths]
 
 
@@ -414,6 +412,22 @@ class Several(AtADesk):
         writer.communicate(THREE[1], timeout=60)
         out, told = process.communicate(timeout=60)
         self.case("several: a pipe between files", "" if (process.returncode, out, told) == (SUCCESS, WHOLE, b"") else repr((process.returncode, len(out), told)))
+
+    def test_vanished(self):
+        """A file that is gone when it is its turn is named, and the packets of those before it are given."""
+        self.desk.lay(config=TABLE, filter=EVERY)
+        paths = lay(self.desk.directory, "three", THREE)
+        os.remove(paths[1])
+        os.mkfifo(paths[1])
+        process = subprocess.Popen([*desk_command(paths), "-v"], stdin=subprocess.DEVNULL, stdout=subprocess.PIPE, stderr=subprocess.PIPE)
+        # The run opens the pipe once the first file was read; the last file goes before it has the pipe's bytes.
+        with open(paths[1], "wb") as pipe:
+            os.remove(paths[2])
+            pipe.write(THREE[1])
+        out, told = process.communicate(timeout=60)
+        line = f"afdxmon: watch 3 Read A\n{paths[2]}: No such file or directory (os error 2)\n{UNREADABLE}\n"
+        before = HEADER + b"".join(part[24:] for part in THREE[:2])
+        self.case("several: a file that is gone", "" if (process.returncode, out, told.decode()) == (FAULT, before, line) else repr((process.returncode, len(out), told)))
 
     def test_standard_input(self):
         """Standard input is named /dev/stdin among several files: `-` is refused there, on the command line and in a list."""
