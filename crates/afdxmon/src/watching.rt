@@ -5,7 +5,8 @@ use bpf_loader::Program;
 use command_line::{Exit, Fault, FileOption, Invocation, Summary, WatchArguments};
 use commands::{
     LedgerWriter, MAX_LATE, RunSums, Spans, TextSums, blocks_of, create, create_hashed, file_in,
-    format_of, is_at_terminal, refuse_shared, shared, text_of, with_manifest, worst_links,
+    format_of, is_at_terminal, refuse_shared, shared, text_of, version_of, with_manifest,
+    worst_links,
 };
 use pcap_io::WriteSink;
 use pcapng::Interfaces;
@@ -248,6 +249,7 @@ fn run_watch<'p, R: Threads + Wait + Sync>(
     let plan = Plan {
         programs: analysis.programs,
         format: format_of(given.pcapng, Interfaces::Networks, Some(analysis.config)),
+        version: version_of(given.details),
     };
     let run = sized_watch(
         threads,

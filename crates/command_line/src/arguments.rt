@@ -83,6 +83,8 @@ pub struct WatchArguments<'a> {
     pub capture: Option<&'a str>,
     /// The ledger that is written.
     pub ledger: &'a str,
+    /// Is it of version 3, with the length of each frame on the wire?
+    pub details: bool,
     /// The manifest that is written, if one is.
     pub manifest: Option<&'a str>,
     /// Are the recordings and the outputs hashed for it?
@@ -355,6 +357,7 @@ fn watch_arguments<'a>(given: &ArgMatches<'a>) -> Result<WatchArguments<'a>, Mis
         b: given.get_str("b"),
         capture: given.get_str("capture"),
         ledger: needed(given, "ledger")?,
+        details: flag(given, "details")?,
         manifest: given.get_str("manifest"),
         digest: flag(given, "digest")?,
         resumes: flag(given, "resume-after-cut")?,

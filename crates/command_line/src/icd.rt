@@ -100,8 +100,8 @@ impl Display for HeadWords {
     fn fmt<W: fmt::Write>(&self, f: &mut Formatter<W>) -> fmt::Result {
         match self.0 {
             HeadFault::NoId => f.write_str(
-                "no head is id; others may be name, bag_ms, jitter_us, smax, integrity, redundancy and \
-                 skew_us",
+                "no head is id; others may be name, bag_ms, jitter_us, smax, integrity, redundancy, \
+                 skew_us and group",
             ),
             HeadFault::Twice(key) => {
                 let name = key.name();

@@ -266,6 +266,7 @@ fn field_name(fault: FrameFault) -> &'static str {
         FrameFault::Redundancy => "redundancy",
         FrameFault::Kept => "kept",
         FrameFault::Mask => "mask",
+        FrameFault::Length => "length",
         FrameFault::Fields => "fields",
     }
 }

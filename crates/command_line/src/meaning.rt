@@ -317,7 +317,7 @@ fn debug_advice(fault: DebugFault) -> &'static str {
 
 fn line_advice(fault: LineFault) -> &'static str {
     match fault {
-        LineFault::Head => "Give a ledger of version 2, as afdxmon watch --ledger writes it",
+        LineFault::Head => "Give a ledger of version 2 or 3, as afdxmon watch --ledger writes it",
         LineFault::Frame(_) => "Take the ledger as watch wrote it: the line has no frame's form",
         LineFault::Order => "Take the ledger as watch wrote it: no such line stands there",
         LineFault::Newline =>

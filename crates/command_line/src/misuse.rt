@@ -86,7 +86,7 @@ impl Misuse {
                 "no recording is given\n  Name one by --a, --b or both, or an ICD by --icd",
             Misuse::NoColumn => {
                 "--column isn't KEY=HEAD, or has a KEY twice\n  Give as KEY id, name, bag_ms, jitter_us, \
-                 smax, integrity, redundancy or skew_us"
+                 smax, integrity, redundancy, skew_us or group"
             }
             Misuse::NoDocument =>
                 "--column is of a document, and none is given\n  Name it by --icd",

@@ -11,10 +11,10 @@ use std::alloc::{AllocError, Global};
 
 /// The version that `--version` prints. In a copy of the linked program `tools/stamp` puts the commit in the
 /// place of the 12 letters; `tools/release` holds the toolchain to be that which proved the program.
-const VERSION: &str = "1.0.0 (commit unknown-tree) proved by rattle-kit-13f";
+const VERSION: &str = "1.0.0 (commit unknown-tree) proved by rattle-kit-13b";
 
 /// The version, the commit of the program's sources, and the toolchain that proved them:
-/// `1.0.0 (commit 0123456789ab) proved by rattle-kit-13f`.
+/// `1.0.0 (commit 0123456789ab) proved by rattle-kit-13b`.
 pub fn version() -> &'static str {
     VERSION
 }
@@ -157,7 +157,7 @@ const CAPTURE: [Argument; 8] = [
 
 const ASM: [Argument; 1] = [VERBOSE];
 
-const WATCH: [Argument; 15] = [
+const WATCH: [Argument; 16] = [
     CONFIG,
     FILTER,
     A,
@@ -167,6 +167,11 @@ const WATCH: [Argument; 15] = [
         "ledger",
         Form::Needed("FILE"),
         "The ledger of verdicts to write",
+    ),
+    Argument(
+        "details",
+        Form::Flag,
+        "Write a ledger of version 3, with each frame's length on the wire",
     ),
     Argument(
         "manifest",

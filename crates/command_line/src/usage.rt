@@ -69,9 +69,9 @@ pub const LINKS_EXAMPLE: &str = "\
 The draft says what was seen and not what was specified: check it against the ICD. With --icd it says
 what the ICD specifies, and what was seen where that leaves a value out; comments say where both differ.
 The ICD is a table as spreadsheets export it: the heads of its columns are id and any of name, bag_ms,
-jitter_us, smax, integrity, redundancy and skew_us, or as 'VL ID' and 'BAG [ms]'; --column names others,
-and all else is passed over. Without --constant the draft has the most common constant field with bits 24
-and 25 set. '-' is standard input.
+jitter_us, smax, integrity, redundancy, skew_us and group, or as 'VL ID', 'BAG [ms]' and 'LRU'; --column
+names others, and all else is passed over. Without --constant the draft has the most common constant
+field with bits 24 and 25 set. '-' is standard input.
 
 Example: a table from two recordings, and a run with it
   afdxmon links --a a.pcap --b b.pcap > draft.toml

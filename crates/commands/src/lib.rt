@@ -31,7 +31,7 @@ pub use files::{refuse_shared, refuse_streams};
 pub use inputs::{MAX_LATE, is_at_terminal, text_of};
 pub use outputs::{
     LedgerWriter, RunSums, Spans, TextSums, arguments, blocks_of, create, create_hashed, file_in,
-    format_of, shared, summarise, with_manifest, worst_links,
+    format_of, shared, summarise, version_of, with_manifest, worst_links,
 };
 pub use reporting::report;
 pub use transit_cutting::cut_transits;

@@ -2,7 +2,7 @@
 //!
 //! - [`summarise`] tells a person what a run came to, and of which links ([`worst_links`]) the most frames
 //!   were discarded.
-//! - [`create`], [`format_of`] and [`LedgerWriter`]: what is written.
+//! - [`create`], [`format_of`], [`version_of`] and [`LedgerWriter`]: what is written.
 //! - [`with_manifest`]: writes the manifest of a run.
 //! - [`LineTally`]: what a cut saw of its ledger, and its notes.
 //!
@@ -18,6 +18,6 @@ mod worst;
 pub use ended::{file_in, summarise};
 pub use line_tally::LineTally;
 pub use manifest::{RunSums, TextSums, arguments, with_manifest};
-pub use opening::{blocks_of, create, create_hashed, format_of, live_output, shared};
+pub use opening::{blocks_of, create, create_hashed, format_of, live_output, shared, version_of};
 pub use spans::{LedgerWriter, Spans};
 pub use worst::worst_links;

@@ -24,6 +24,7 @@ use std::io::{Read, Write};
 use tap_inputs::{Cause, Detail, Input, Noting, Outcome, Taps, open};
 use transit_ledger::TransitFault;
 use transit_report::{TimeColumns, TransitReport, read_transits};
+use verdict_ledger::LedgerVersion;
 use vl_config::Config;
 
 /// There is no memory for a report.
@@ -152,36 +153,82 @@ fn is_of_part(given: &ReportArguments<'_>) -> bool {
     given.from.is_some() || given.to.is_some() || given.link.is_some() || given.network.is_some()
 }
 
-/// The head of a ledger, which a part of one lacks.
-const HEAD: &[u8] = b"afdx-ledger 2\n";
+/// How many spaces the line of a frame has in a ledger of version 3.
+const SPACES_WITH_LENGTH: usize = 11;
 
-/// How a ledger begins: its first byte, if it has one. That of a line of a frame is a digit, so the ledger is
-/// a part then.
+/// How many bytes of a ledger are read to see how it begins: more than the line of a frame has.
+const BEGINNING: usize = 128;
+
+/// How a ledger begins: its first line, as far as it has room. That of a frame begins with a digit, so the
+/// ledger is a part then.
 #[derive(Clone, Copy)]
 struct Beginning {
-    byte: [u8; 1],
+    bytes: [u8; BEGINNING],
     count: usize,
 }
 
 impl Beginning {
     /// Of a ledger that nothing was read of. Where it can't be read, that is met again as its lines are.
     fn read(ledger: &mut OpenLedger) -> Beginning {
-        let mut byte = [0u8; 1];
-        let count = ledger.read(&mut byte).unwrap_or(0).min(1);
-        Beginning { byte, count }
+        let mut beginning = Beginning {
+            bytes: [0; BEGINNING],
+            count: 0,
+        };
+        for _ in 0..BEGINNING {
+            if beginning.has_line() || beginning.read_more(ledger) == 0 {
+                return beginning;
+            }
+        }
+        beginning
+    }
+
+    /// Reads on. How many bytes there were: none where there is no room.
+    fn read_more(&mut self, ledger: &mut OpenLedger) -> usize {
+        let Some(room) = self.bytes.get_mut(self.count..) else {
+            return 0;
+        };
+        let most = room.len();
+        let count = ledger.read(room).unwrap_or(0).min(most);
+        self.count = self.count.saturating_add(count).min(BEGINNING);
+        count
+    }
+
+    /// Is all known that is to be seen: of a part the whole first line, else its first byte?
+    fn has_line(&self) -> bool {
+        self.count > 0 && (!self.is_part() || self.bytes().contains(&b'\n'))
     }
 
     fn is_part(&self) -> bool {
-        self.count == 1 && self.byte[0].is_ascii_digit()
+        self.bytes()
+            .first()
+            .is_some_and(|byte| byte.is_ascii_digit())
     }
 
-    /// The bytes that the ledger's reader has before the rest: of a part a head, and the first byte.
+    /// The version of the ledger that a part is of: with a length, its first line has a field more.
+    fn version(&self) -> LedgerVersion {
+        let line = self
+            .bytes()
+            .split(|byte| *byte == b'\n')
+            .next()
+            .unwrap_or(b"");
+        match line.iter().filter(|byte| **byte == b' ').count() {
+            SPACES_WITH_LENGTH => LedgerVersion::Three,
+            _ => LedgerVersion::Two,
+        }
+    }
+
+    /// The bytes that the ledger's reader has before the rest: of a part a head, and those that were read.
     fn head(&self) -> &'static [u8] {
-        if self.is_part() { HEAD } else { b"" }
+        if self.is_part() {
+            self.version().head().as_bytes()
+        } else {
+            b""
+        }
     }
 
-    fn byte(&self) -> &[u8] {
-        if self.count == 1 { &self.byte } else { b"" }
+    /// The bytes that were read.
+    fn bytes(&self) -> &[u8] {
+        self.bytes.get(..self.count).unwrap_or(b"")
     }
 }
 
@@ -449,8 +496,8 @@ fn read_ledger(
     beginning: Beginning,
 ) -> Result<Report, Outcome> {
     let (alloc, config) = (rt.alloc(), table.config);
-    ledger.tally.pass(beginning.byte());
-    let before = beginning.head().chain(beginning.byte());
+    ledger.tally.pass(beginning.bytes());
+    let before = beginning.head().chain(beginning.bytes());
     let source = ReadSource::new(before.chain(&mut *ledger));
     let read = if beginning.is_part() {
         read_part(alloc, config, source, part, recorders).map_err(|fault| (fault, None))
@@ -504,7 +551,7 @@ fn shown_of<'a>(
     Shown {
         report,
         config,
-        sizes: has_sizes(config),
+        sizes: has_sizes(report, config),
         manifest,
         baseline,
         baseline_config,

@@ -53,7 +53,7 @@ line_of reader line = record { text = lent_of reader; line = line }
 
 one_frame : (line : LedgerLine) → length (frames_in line) ≤ 1
 one_frame (lines.Frame v) = omega arith
-one_frame lines.Head = omega arith
+one_frame (lines.Head version) = omega arith
 one_frame (lines.Counts kind) = omega arith
 
 few_frames : (rs : List ReadLine) → length (frame_lines rs) ≤ length rs

@@ -214,7 +214,7 @@ fn cut_lines<L: TapSource, S: TapSource, T: TapSource, W: OutSink, O: LineObserv
             Ok(FoundLine::Line(LedgerLine::Frame(line))) => {
                 taking.cut_line(alloc, observer, selection, skips, &line, ledger.number())?;
             }
-            Ok(FoundLine::Line(LedgerLine::Head)) => {}
+            Ok(FoundLine::Line(LedgerLine::Head(_))) => {}
             Ok(FoundLine::Line(LedgerLine::Counts(_))) => {}
             Ok(FoundLine::Complete) => return Ok(CutEnding::Complete),
             Ok(FoundLine::Incomplete(stop)) => return Ok(CutEnding::Incomplete(stop)),

@@ -44,7 +44,7 @@ fn note_lines<L: TapSource>(
                     Err(AllocError) => return Err(CutFault::Memory),
                 }
             }
-            Ok(FoundLine::Line(LedgerLine::Head)) => {}
+            Ok(FoundLine::Line(LedgerLine::Head(_))) => {}
             Ok(FoundLine::Line(LedgerLine::Counts(_))) => {}
             Ok(FoundLine::Complete) => return Ok(()),
             Ok(FoundLine::Incomplete(_)) => return Ok(()),

@@ -199,7 +199,7 @@ fn print_all<L: TapSource, S: TapSource, T: TapSource, W: OutSink, O: LineObserv
                     ledger.line(),
                 )?;
             }
-            Ok(FoundLine::Line(LedgerLine::Head)) => {}
+            Ok(FoundLine::Line(LedgerLine::Head(_))) => {}
             Ok(FoundLine::Line(LedgerLine::Counts(_))) => {}
             Ok(FoundLine::Complete) => return Ok(CutEnding::Complete),
             Ok(FoundLine::Incomplete(stop)) => return Ok(CutEnding::Incomplete(stop)),

@@ -258,29 +258,54 @@ impl Flight {
 
     // ---- networks
 
-    /// Frames that the recorder cut short are missing by number: at most as many as it cut.
+    /// Frames that the recorder cut short are missing by number: at most as many as it cut. Where more are
+    /// missing, those alone are taken that came on the other network.
     fn claim_cut(&mut self, links: &[LinkState], network: Network) -> Result<(), AllocError> {
         let Some(cut) = self.accounts.find_of_network(Kind::Cut, network) else {
             return Ok(());
         };
-        let side = Side::of(network);
+        let (side, most) = (Side::of(network), self.accounts.sum(cut, Word::Cut));
+        for alone in [false, true] {
+            if self.missing_on(links, side, alone) <= most {
+                return self.claim_missing(cut, links, side, alone);
+            }
+        }
+        Ok(())
+    }
+
+    /// Did all numbers that an account of a link has as missing come on the other network, where it is asked?
+    fn is_asked(&self, link: usize, kind: Kind, side: Side, alone: bool) -> bool {
+        let count = |word| self.own_count(link, kind, side, word);
+        !alone || count(Word::Alone) == count(Word::Lost)
+    }
+
+    /// How many numbers are missing on a network by its links' own accounts.
+    fn missing_on(&self, links: &[LinkState], side: Side, alone: bool) -> u64 {
         let mut missing = 0u64;
         for link in links {
             for kind in [Kind::Lost, Kind::Absent] {
-                missing = missing.saturating_add(self.own_count(
-                    link.place,
-                    kind,
-                    side,
-                    Word::Lost,
-                ));
+                if self.is_asked(link.place, kind, side, alone) {
+                    let lost = self.own_count(link.place, kind, side, Word::Lost);
+                    missing = missing.saturating_add(lost);
+                }
             }
         }
-        if missing > self.accounts.sum(cut, Word::Cut) {
-            return Ok(());
-        }
+        missing
+    }
+
+    /// One cause takes those numbers.
+    fn claim_missing(
+        &mut self,
+        cause: Handle,
+        links: &[LinkState],
+        side: Side,
+        alone: bool,
+    ) -> Result<(), AllocError> {
         for link in links {
             for kind in [Kind::Lost, Kind::Absent] {
-                self.claim(cut, link.place, kind, side)?;
+                if self.is_asked(link.place, kind, side, alone) {
+                    self.claim(cause, link.place, kind, side)?;
+                }
             }
         }
         Ok(())

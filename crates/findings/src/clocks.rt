@@ -82,7 +82,25 @@ impl Block {
     }
 }
 
-/// All skews stepped by so much: when, and when the blocks begin that show it.
+/// A whole block, with its median and its spread.
+#[derive(Clone, Copy)]
+struct WholeBlock {
+    block: Block,
+    median: Long,
+    spread: Long,
+}
+
+impl WholeBlock {
+    fn of(block: Block) -> WholeBlock {
+        WholeBlock {
+            block,
+            median: block.skews.median(),
+            spread: block.spread(),
+        }
+    }
+}
+
+/// All skews step by so much: when it first shows, and since when frames may be late by it.
 #[derive(Clone, Copy)]
 pub struct SkewStep {
     pub size: Long,
@@ -117,7 +135,7 @@ pub struct Clocks {
     /// Which block is filled, and the ones before.
     pub number: u64,
     block: Block,
-    blocks: Vec<Block>,
+    blocks: Vec<WholeBlock>,
     points: Vec<Point>,
     stride: u64,
     skipped: u64,
@@ -178,8 +196,8 @@ impl Clocks {
             return Ok(None);
         }
         self.number = self.number.saturating_add(1);
-        self.blocks.push(self.block)?;
-        let block = self.block;
+        let block = WholeBlock::of(self.block);
+        self.blocks.push(block)?;
         self.block = Block::empty();
         if self.blocks.len() >= BLOCKS {
             if let Some(step) = self.step() {
@@ -195,7 +213,7 @@ impl Clocks {
     fn medians(&self, from: usize) -> Samples<3> {
         let mut medians = Samples::none();
         for block in self.blocks.iter().skip(from).take(3) {
-            medians.put(block.skews.median());
+            medians.put(block.median);
         }
         medians
     }
@@ -206,27 +224,25 @@ impl Clocks {
         let size = high.median() - low.median();
         let mut spreads: Samples<BLOCKS> = Samples::none();
         for block in self.blocks.iter() {
-            spreads.put(block.spread());
+            spreads.put(block.spread);
         }
         let noise = spreads.median();
         let unsteady = (low.greatest() - low.least()).max(high.greatest() - high.least());
         if size.abs() < LEAST_STEP.max(noise * 6) || unsteady * 4 > size.abs() {
             return None;
         }
-        let mut beyond = self
-            .blocks
-            .iter()
-            .skip(2)
-            .filter_map(|block| block.first_beyond(low.median(), size.abs() / 2));
+        let mut beyond = self.blocks.iter().skip(2).filter_map(|whole| whole
+            .block
+            .first_beyond(low.median(), size.abs() / 2));
         Some(SkewStep {
             size,
             at: beyond.next()?,
-            since: self.blocks.get(2)?.begins(),
+            since: self.blocks.get(2)?.block.begins(),
         })
     }
 
     /// Notes where the skews stand.
-    fn note_point(&mut self, block: &Block) -> Result<(), AllocError> {
+    fn note_point(&mut self, whole: &WholeBlock) -> Result<(), AllocError> {
         let from = self.blocks.len().saturating_sub(3);
         if self.blocks.len() < 3 {
             return Ok(());
@@ -238,9 +254,9 @@ impl Clocks {
         }
         self.skipped = 0;
         self.points.push(Point {
-            at: block.ends(),
+            at: whole.block.ends(),
             median: self.drifted,
-            spread: block.spread(),
+            spread: whole.spread,
         })?;
         if self.points.len() >= POINTS {
             self.thin();

@@ -135,11 +135,12 @@ impl Flight {
         }
     }
 
-    /// B's clock stepped against A's by so much: late frames since then are late by it.
-    pub fn step(&mut self, account: Handle, size: Long, at: Time) -> Result<(), AllocError> {
+    /// B's clock stepped against A's: late frames since then are late by it.
+    pub fn step(&mut self, account: Handle, step: &SkewStep) -> Result<(), AllocError> {
+        let (size, at) = (step.size, step.at);
         self.clocks.note_step(Step { account, size, at })?;
         for link in 0..self.skews.len() {
-            self.step_link(account, link, size, at)?;
+            self.step_link(account, link, size, step.since)?;
         }
         Ok(())
     }
@@ -246,7 +247,7 @@ impl Flight {
         }
         self.accounts.hit(account, Sign::of(Word::Step), step.at)?;
         self.keep(account)?;
-        self.step(account, step.size, step.since)
+        self.step(account, step)
     }
 
     /// The skew of a link moved.

@@ -1,8 +1,9 @@
 //! Events of links that may have one cause: pauses with one gap of their network, or that share their time.
 use crate::accounts::{Accounts, Handle, Span};
+use crate::clocks::SkewStep;
 use crate::flight::Flight;
 use crate::kind::Kind;
-use crate::long::{Long, ZERO};
+use crate::long::{Long, Time, ZERO};
 use crate::samples::Samples;
 use crate::signs::{Side, Sign, Word};
 use std::alloc::{AllocError, Global};
@@ -280,17 +281,29 @@ impl Flight {
         Ok(())
     }
 
-    /// A clock stepped by so much within this time. A step of the skews that says the same is part of it.
-    fn clock_step(&mut self, account: Handle, ahead: Long, span: Span) -> Result<(), AllocError> {
-        let Some(last) = self.clocks.last_step() else {
-            return self.step(account, ahead, span.from);
-        };
+    /// Did the skews step by so much since a moment, of which no clock's step was told? Slow links have pairs
+    /// that show it before enough of them say that no number is missing.
+    fn skew_step_since(&self, from: Time, ahead: Long) -> Option<Handle> {
+        let last = self.clocks.last_step()?;
         let told = self.accounts.kind(last.account) == Some(Kind::SkewStep);
         let alike = (last.size - ahead).is_within(ahead.abs() / 8);
-        if told && alike && last.at >= span.from {
-            return self.accounts.absorb(account, last.account);
+        (told && alike && last.at >= from).then_some(last.account)
+    }
+
+    /// A clock stepped by so much within this time. A step of the skews that says the same is part of it.
+    fn clock_step(&mut self, account: Handle, ahead: Long, span: Span) -> Result<(), AllocError> {
+        if let Some(told) = self.skew_step_since(span.from, ahead) {
+            self.accounts.take(told, Sign::of(Word::Step), Long(1));
+            return self.accounts.absorb(account, told);
         }
-        self.step(account, ahead, span.from)
+        self.step(
+            account,
+            &SkewStep {
+                size: ahead,
+                at: span.from,
+                since: span.from,
+            },
+        )
     }
 
     /// A group that can't grow any more.

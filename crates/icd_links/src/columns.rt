@@ -42,6 +42,7 @@ pub struct Columns {
     integrity: Option<usize>,
     redundancy: Option<usize>,
     skew_us: Option<usize>,
+    group: Option<usize>,
 }
 
 impl Columns {
@@ -60,6 +61,7 @@ impl Columns {
             integrity: place_of(alloc, heads, given, Key::Integrity)?.found(),
             redundancy: place_of(alloc, heads, given, Key::Redundancy)?.found(),
             skew_us: place_of(alloc, heads, given, Key::SkewUs)?.found(),
+            group: place_of(alloc, heads, given, Key::Group)?.found(),
         })
     }
 
@@ -74,6 +76,7 @@ impl Columns {
             Key::Integrity => self.integrity,
             Key::Redundancy => self.redundancy,
             Key::SkewUs => self.skew_us,
+            Key::Group => self.group,
             _ => None,
         }
     }
@@ -120,10 +123,12 @@ fn place_named(
         if naming_of(alloc, key, given, head)? != Some(naming) {
             continue;
         }
-        if !matches!(found, Place::None) {
-            return Ok(Place::Twice(place));
+        match found {
+            Place::None => found = Place::At(place),
+            // An ICD often has the LRU and its port: the first says the group.
+            _ if key == Key::Group && naming == Naming::Synonym => return Ok(found),
+            _ => return Ok(Place::Twice(place)),
         }
-        found = Place::At(place);
     }
     Ok(found)
 }

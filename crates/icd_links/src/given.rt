@@ -18,6 +18,7 @@ pub struct GivenHeads<'a> {
     integrity: Option<&'a str>,
     redundancy: Option<&'a str>,
     skew_us: Option<&'a str>,
+    group: Option<&'a str>,
 }
 
 /// The key of a link that has this name.
@@ -37,6 +38,7 @@ impl<'a> GivenHeads<'a> {
             integrity: None,
             redundancy: None,
             skew_us: None,
+            group: None,
         }
     }
 
@@ -56,6 +58,7 @@ impl<'a> GivenHeads<'a> {
             Key::Integrity => self.integrity,
             Key::Redundancy => self.redundancy,
             Key::SkewUs => self.skew_us,
+            Key::Group => self.group,
             _ => None,
         }
     }
@@ -102,6 +105,10 @@ impl<'a> GivenHeads<'a> {
             },
             Key::SkewUs => GivenHeads {
                 skew_us: given,
+                ..self
+            },
+            Key::Group => GivenHeads {
+                group: given,
                 ..self
             },
             _ => self,

@@ -62,6 +62,7 @@ fn synonyms_of(key: Key) -> Synonyms {
             MICROSECONDS,
             NOT_MICROSECONDS,
         ),
+        Key::Group => (&["group", "lru", "port", "equipment"], NONE, &[]),
         _ => (&[], NONE, &[]),
     };
     Synonyms {

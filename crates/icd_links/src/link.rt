@@ -24,4 +24,6 @@ pub struct IcdLink {
     pub redundancy: Option<bool>,
     /// The greatest difference of time between the two copies of a frame, in microseconds: at most 1000000.
     pub skew_us: Option<u64>,
+    /// The group that it belongs to, as an LRU or a port: 1 to 32 ASCII letters, digits, `_` and `-`.
+    pub group: Option<String>,
 }

@@ -68,6 +68,18 @@ fn add_character(name: &mut String, character: char, room: usize) -> Result<bool
     Ok(true)
 }
 
+/// A group that a table holds, of the text that a document has: what it can hold of its letters, and `_`.
+/// Empty: nothing is left. Texts that differ only beyond that have one group.
+pub fn group_of(alloc: Global, original: &str) -> Result<String, AllocError> {
+    let mut group = String::new(alloc);
+    for character in original.chars() {
+        if !add_character(&mut group, character, MAX_NAME)? {
+            break;
+        }
+    }
+    Ok(group)
+}
+
 /// A name that a table holds, of one that it can't hold: what it can hold of its letters, `_`, and the
 /// identifier, so that no two are the same.
 pub fn made_of(alloc: Global, original: &str, id: VlId) -> Result<String, AllocError> {

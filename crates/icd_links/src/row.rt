@@ -7,7 +7,7 @@ use crate::fault::{HeadFault, IcdFault};
 use crate::faults::{IcdCell, IcdFaults};
 use crate::given::GivenHeads;
 use crate::link::IcdLink;
-use crate::name::{is_held, made_of};
+use crate::name::{group_of, is_held, made_of};
 use afdx_frame::VlId;
 use csv::StringRecord;
 use std::alloc::{AllocError, Global};
@@ -220,7 +220,14 @@ impl<'a> Reading<'a> {
             integrity,
             redundancy,
             skew_us,
+            group: self.group(row)?,
         })
+    }
+
+    /// The group of a row's link, if it has one, in the characters that a table holds.
+    fn group(&self, row: &StringRecord) -> Result<Option<String>, AllocError> {
+        let group = group_of(self.alloc, self.cell(row, Key::Group))?;
+        Ok(if group.is_empty() { None } else { Some(group) })
     }
 
     /// Gives a link the name of its row.
@@ -255,8 +262,9 @@ impl<'a> Reading<'a> {
         self.starts.get(usize::from(id.0))?.checked_sub(1)
     }
 
+    /// Says a row nothing of a link? A group alone may head the rows below it.
     fn is_empty_row(&self, row: &StringRecord) -> bool {
-        LINK_KEYS.iter().all(|key| self.cell(row, *key).is_empty())
+        LINK_KEYS.iter().all(|key| *key == Key::Group || self.cell(row, *key).is_empty())
     }
 
     /// Reads a row that has as many cells as the heads. False: it has a link more than a table, and no

@@ -7,6 +7,7 @@ use Rattle.afdx_frame.specs.declared.key.Network.{Network}
 use Rattle.afdx_frame.specs.declared.key.Network.TheVariants.{A, B}
 use Rattle.pcap_io.specs.declared.device.TapSource.{Ghosts as SourceMembers}
 use Rattle.vl_config.specs.Document.{VlTable}
+use Rattle.verdict_ledger.specs.declared.version.LedgerVersion.{LedgerVersion}
 use Rattle.ledger_text.specs.Ledger.{EndsAt, HasReadLines, ReadLine, frame_lines, frames_in, has_failed as ledger_failed, left_of, lent_of, stage_of}
 use Rattle.ledger_text.specs.Lines.{unread_of}
 use Rattle.ledger_text.specs.Reader.{IsFound, reading_of, source_of}
@@ -52,7 +53,7 @@ lines_more rs r = reverse-append rs (r ∷ [])
 -- a ledger that goes on has fewer lines than it may have
 one_frame : (line : LedgerLine) → length (frames_in line) ≤ 1
 one_frame (lines.Frame v) = omega arith
-one_frame lines.Head = omega arith
+one_frame (lines.Head version) = omega arith
 one_frame (lines.Counts kind) = omega arith
 
 few_frames : (rs : List ReadLine) → length (frame_lines rs) ≤ length rs
@@ -133,11 +134,11 @@ counted_frame qs counted text v =
     same_counts qs counted text (lines.Frame v) (count_cons (λ r. is_link_line r.line) (read_as text (lines.Frame v)) qs 0 refl)
     (count_cons (λ r. is_filter_line r.line) (read_as text (lines.Frame v)) qs 0 refl) refl refl
 
-pub counted_head : (qs : List ReadLine) (counted : CountsLines) (text : List ℕ) → HasCounted qs counted
-    → HasCounted (read_as text lines.Head ∷ qs) counted
-counted_head qs counted text =
-    same_counts qs counted text lines.Head (count_cons (λ r. is_link_line r.line) (read_as text lines.Head) qs 0 refl)
-    (count_cons (λ r. is_filter_line r.line) (read_as text lines.Head) qs 0 refl) refl refl
+pub counted_head : (qs : List ReadLine) (counted : CountsLines) (text : List ℕ) (version : LedgerVersion) → HasCounted qs counted
+    → HasCounted (read_as text (lines.Head version) ∷ qs) counted
+counted_head qs counted text version =
+    same_counts qs counted text (lines.Head version) (count_cons (λ r. is_link_line r.line) (read_as text (lines.Head version)) qs 0 refl)
+    (count_cons (λ r. is_filter_line r.line) (read_as text (lines.Head version)) qs 0 refl) refl refl
 
 counted_by : (qs : List ReadLine) (table : VlTable) (fs : List FrameLine) (old new : CountsLines) (text : List ℕ) (kind : Kind)
     → fs ≡ frame_lines (reverse qs) → HasCounted qs old → IsInPlace table old.links old.filters (taps_in old.endings) kind

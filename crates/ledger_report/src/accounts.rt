@@ -42,10 +42,10 @@ pub struct UnheldLine {
 struct Bounds {
     smax: u32,
     bag: u64,
-    cap: u128,
+    cap: u64,
     /// The least that it may hold, and the most.
-    least: u128,
-    most: u128,
+    least: u64,
+    most: u64,
     /// The timestamp of the frame before.
     last: Option<u64>,
 }
@@ -53,7 +53,7 @@ struct Bounds {
 impl Bounds {
     /// Of a full account, which has seen no frame.
     fn full(link: &Link) -> Bounds {
-        let cap = u128::from(link.smax) * u128::from(link.bag.saturating_add(link.jitter));
+        let cap = u64::from(link.smax).saturating_mul(link.bag.saturating_add(link.jitter));
         Bounds {
             smax: link.smax,
             bag: link.bag,
@@ -65,14 +65,14 @@ impl Bounds {
     }
 
     /// The charge of a frame of this size.
-    fn charge(&self, size: u32) -> u128 {
-        u128::from(size) * u128::from(self.bag)
+    fn charge(&self, size: u32) -> u64 {
+        u64::from(size).saturating_mul(self.bag)
     }
 
     /// Adds the credit since the frame before.
     fn credit(&mut self, stamp: u64) {
         let since = stamp.saturating_sub(self.last.unwrap_or(stamp));
-        let credit = u128::from(self.smax) * u128::from(since);
+        let credit = u64::from(self.smax).saturating_mul(since);
         self.least = self.least.saturating_add(credit).min(self.cap);
         self.most = self.most.saturating_add(credit).min(self.cap);
         self.last = Some(stamp);

@@ -66,12 +66,12 @@ fn earlier(a: Option<FramePlace>, b: Option<FramePlace>) -> Option<FramePlace> {
 }
 
 impl AnomalyTally {
-    fn new(alloc: Global) -> AnomalyTally {
+    fn new(alloc: Global, bins: usize) -> AnomalyTally {
         AnomalyTally {
             count: 0,
             first: None,
             last: None,
-            bins: Series::new(alloc, Merge::Sum),
+            bins: Series::new(alloc, Merge::Sum, bins),
         }
     }
 
@@ -88,14 +88,6 @@ impl AnomalyTally {
         self.count = self.count.saturating_sub(amount);
         self.bins.take_back(tick, amount);
     }
-
-    /// Adds another mark.
-    fn absorb(&mut self, other: &AnomalyTally) -> Result<(), AllocError> {
-        self.count = self.count.saturating_add(other.count);
-        self.first = earlier(self.first, other.first);
-        self.last = self.last.max(other.last);
-        self.bins.absorb(&other.bins)
-    }
 }
 
 /// A sign with its mark.
@@ -109,6 +101,8 @@ struct Mark {
 #[derive(Drop)]
 pub struct Anomalies {
     alloc: Global,
+    /// How many bins each has.
+    bins: usize,
     /// Of the signs that came, in the order in which they first did.
     marks: Vec<Mark>,
     /// The mark of a sign that never came.
@@ -116,12 +110,13 @@ pub struct Anomalies {
 }
 
 impl Anomalies {
-    /// Of no line. Allocates nothing.
-    pub(crate) fn new(alloc: Global) -> Anomalies {
+    /// Of no line, each with so many bins. Allocates nothing.
+    pub(crate) fn new(alloc: Global, bins: usize) -> Anomalies {
         Anomalies {
             alloc,
+            bins,
             marks: Vec::new(alloc),
-            none: AnomalyTally::new(alloc),
+            none: AnomalyTally::new(alloc, bins),
         }
     }
 
@@ -140,7 +135,7 @@ impl Anomalies {
         }
         self.marks.push(Mark {
             sign,
-            tally: AnomalyTally::new(self.alloc),
+            tally: AnomalyTally::new(self.alloc, self.bins),
         })?;
         Ok(self.marks.len().saturating_sub(1))
     }
@@ -160,19 +155,24 @@ impl Anomalies {
         }
     }
 
-    /// Takes so many of a sign back.
-    pub(crate) fn take_back(&mut self, sign: Anomaly, tick: u64, amount: u64) {
-        if let Some(mark) = self.marks.iter_mut().find(|mark| mark.sign == sign) {
-            mark.tally.take_back(tick, amount);
+    /// Counts a line for a sign so often, or takes it back where that is less than 0.
+    pub(crate) fn note(
+        &mut self,
+        sign: Anomaly,
+        at: &LinePlace,
+        count: i64,
+    ) -> Result<(), AllocError> {
+        if count >= 0 {
+            return self.hit(sign, at, count.unsigned_abs());
         }
+        self.take_back(sign, at.tick, count.unsigned_abs());
+        Ok(())
     }
 
-    /// Adds a mark to that of a sign.
-    pub(crate) fn absorb(&mut self, sign: Anomaly, other: &AnomalyTally) -> Result<(), AllocError> {
-        let place = self.place_of(sign)?;
-        match self.marks.get_mut(place) {
-            Some(mark) => mark.tally.absorb(other),
-            None => Ok(()),
+    /// Takes so many of a sign back.
+    fn take_back(&mut self, sign: Anomaly, tick: u64, amount: u64) {
+        if let Some(mark) = self.marks.iter_mut().find(|mark| mark.sign == sign) {
+            mark.tally.take_back(tick, amount);
         }
     }
 

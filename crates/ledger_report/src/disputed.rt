@@ -4,8 +4,9 @@ use crate::accounts::Unheld;
 use crate::fault::WrongLine;
 use crate::frame_lines::FrameLines;
 use afdx_frame::VlId;
-use ledger_text::read_frame;
+use ledger_text::{FrameLine, read_frame};
 use std::alloc::Global;
+use verdict_ledger::LedgerVersion;
 use vl_config::Config;
 
 /// How a line and the table differ on a link.
@@ -42,7 +43,7 @@ impl Disputed {
         line: &[u8],
         wrong: WrongLine,
     ) -> Option<Disputed> {
-        let line = read_frame(line).ok()?;
+        let line = frame_of(line)?;
         let id = line.link?;
         let how = match wrong {
             WrongLine::UnknownLink => Difference::Lacks,
@@ -96,6 +97,14 @@ impl Disputed {
             id: next,
             how: Difference::Uncounted,
         })
+    }
+}
+
+/// The line of a frame of either version. None: it isn't of that form.
+fn frame_of(line: &[u8]) -> Option<FrameLine> {
+    match read_frame(LedgerVersion::Two, line) {
+        Ok(line) => Some(line),
+        Err(_) => read_frame(LedgerVersion::Three, line).ok(),
     }
 }
 

@@ -14,6 +14,7 @@
 #![tactic(auto)]
 
 mod accounts;
+mod activity;
 mod anomalies;
 mod bounds;
 mod counts;
@@ -37,6 +38,7 @@ mod statistics;
 mod worse;
 
 pub use accounts::{Unheld, UnheldLine};
+pub use activity::{Activity, Bin, Measure};
 pub use anomalies::{Anomalies, Anomaly, AnomalyTally};
 pub use bounds::{BINS, FIRST_WIDTH};
 pub use counts::FrameCounts;

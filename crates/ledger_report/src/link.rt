@@ -4,8 +4,7 @@ use crate::deliveries::Delivered;
 use crate::lane::{LaneLine, LaneReport};
 use crate::median::Classes;
 use crate::moment::LinePlace;
-use crate::series::{Merge, Series};
-use crate::statistics::rule_of;
+use crate::statistics::{rule_of, size_of};
 use afdx_frame::VlId;
 use findings::PerNetwork;
 use ledger_text::FrameLine;
@@ -32,8 +31,6 @@ pub struct LinkReport {
     pub skew_median: u64,
     /// The greatest skew of a second delivery beyond SkewMax.
     pub late_greatest: u64,
-    /// The greatest skews of copies by time, by the network of the second.
-    pub skews: PerNetwork<Series>,
     /// Numbers lost on both networks.
     pub lost_both: u64,
     classes: Classes,
@@ -59,44 +56,46 @@ impl LinkReport {
             skew_greatest: 0,
             skew_median: 0,
             late_greatest: 0,
-            skews: PerNetwork {
-                a: Series::new(alloc, Merge::Greatest),
-                b: Series::new(alloc, Merge::Greatest),
-            },
             lost_both: 0,
             classes: Classes::new(alloc),
         }
     }
 
-    /// Notes a line of class `toolong` or `regular`, and where it is a copy, its delivery.
+    /// Notes a line of class `toolong` or `regular`, with the latest delivery of its number, which stands
+    /// before a copy. How much later a copy came.
     pub(crate) fn note(
         &mut self,
         line: &FrameLine,
         at: &LinePlace,
         delivery: Option<Delivered>,
-    ) -> Result<(), AllocError> {
+    ) -> Result<Option<u64>, AllocError> {
+        let skew = match delivery {
+            Some(delivery) if line.verdict.is_copy() => Some(
+                at.place.stamp.saturating_sub(delivery.stamp),
+            ),
+            _ => None,
+        };
         let seen = LaneLine {
             at: *at,
             rule: rule_of(line),
-            kept: line.kept,
+            size: size_of(line),
+            skew,
         };
         let least = self.bag.saturating_sub(self.jitter);
         self.lanes.of_mut(at.network).note(&seen, least)?;
-        match delivery {
-            Some(delivery) if line.verdict.is_copy() => self.note_copy(&delivery, at),
-            _ => Ok(()),
+        if let Some(skew) = skew {
+            self.note_copy(skew)?;
         }
+        Ok(skew)
     }
 
-    /// Notes a copy, whose delivery stands before on the other network.
+    /// Notes a copy that came so much later than its delivery.
     #[inline]
-    fn note_copy(&mut self, delivery: &Delivered, at: &LinePlace) -> Result<(), AllocError> {
-        let skew = at.place.stamp.saturating_sub(delivery.stamp);
+    fn note_copy(&mut self, skew: u64) -> Result<(), AllocError> {
         self.copies = self.copies.saturating_add(1);
         self.skew_sum = self.skew_sum.saturating_add(skew);
         self.skew_greatest = self.skew_greatest.max(skew);
-        self.classes.add(skew)?;
-        self.skews.of_mut(at.network).put(at.tick, skew)
+        self.classes.add(skew)
     }
 
     /// Counts numbers that are missing on both networks, or takes them back.
@@ -113,7 +112,5 @@ impl LinkReport {
     pub(crate) fn align(&mut self, doublings: u32) {
         self.lanes.a.align(doublings);
         self.lanes.b.align(doublings);
-        self.skews.a.align(doublings);
-        self.skews.b.align(doublings);
     }
 }

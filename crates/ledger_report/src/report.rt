@@ -69,6 +69,8 @@ pub struct Report {
     pub end: u64,
     /// The width of a bin, in nanoseconds.
     pub width: u64,
+    /// Do its lines have the lengths of frames on the wire, as those of version 3?
+    pub has_lengths: bool,
     pub networks: PerNetwork<NetworkReport>,
     /// One for each link of the table, in its order.
     pub links: Vec<LinkReport>,
@@ -169,7 +171,7 @@ fn read_lines<S: TapSource>(
                     return Err(NoReport::Memory);
                 }
             }
-            Ok(FoundLine::Line(LedgerLine::Head)) => {}
+            Ok(FoundLine::Line(LedgerLine::Head(_))) => {}
             Ok(FoundLine::Line(LedgerLine::Counts(kind))) => {
                 let taken = reading
                     .lines
@@ -187,7 +189,7 @@ fn read_lines<S: TapSource>(
 
 /// Reads a ledger, and makes its report against the table that it was judged by.
 ///
-/// One pass, numbers alone: the memory is bounded by the table's links, some 40 KB each, whatever the
+/// One pass, numbers alone: the memory is bounded by the table's links, some 16 KB each, whatever the
 /// ledger's length. All lines are checked; of those that `part` doesn't take the report has nothing else.
 /// `recorders` says what the ledger doesn't tell of its recordings.
 ///
@@ -268,7 +270,7 @@ fn read_partial<S: TapSource>(
                     return Err(line_fault(ledger.number(), refusal));
                 }
             }
-            Ok(FoundLine::Line(LedgerLine::Head | LedgerLine::Counts(_))) => {}
+            Ok(FoundLine::Line(LedgerLine::Head(_) | LedgerLine::Counts(_))) => {}
             Ok(FoundLine::Complete) => return Ok(None),
             Ok(FoundLine::Incomplete(end)) => return Ok(Some(end)),
             Err(fault) => return Err(read_fault(fault)),
@@ -362,6 +364,7 @@ impl Reading {
             start: statistics.start,
             end,
             width: statistics.width,
+            has_lengths: statistics.has_lengths,
             networks: statistics.networks,
             links: statistics.links,
             outside: statistics.outside,

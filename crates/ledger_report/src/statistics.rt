@@ -2,7 +2,7 @@
 
 use crate::accounts::Accounts;
 use crate::anomalies::Anomaly;
-use crate::bounds::FIRST_WIDTH;
+use crate::bounds::{BINS, FIRST_WIDTH};
 use crate::counts_lines::{TapEnd, TapEnding};
 use crate::frame_lines::FrameLines;
 use crate::link::LinkReport;
@@ -38,6 +38,12 @@ pub fn rule_of(line: &FrameLine) -> Option<Anomaly> {
     }
 }
 
+/// How many bytes a line's frame has: its length on the wire, or in version 2 those that the capture holds.
+#[inline]
+pub fn size_of(line: &FrameLine) -> Option<u32> {
+    line.length.or(line.kept)
+}
+
 /// The numbers so far.
 #[derive(Drop)]
 pub struct Statistics {
@@ -46,6 +52,8 @@ pub struct Statistics {
     pub width: u64,
     /// The timestamp of the latest line.
     latest: Option<u64>,
+    /// Do the lines have the lengths of frames on the wire?
+    pub has_lengths: bool,
     pub networks: PerNetwork<NetworkReport>,
     pub links: Vec<LinkReport>,
     /// By identifier, the index of the link.
@@ -115,7 +123,7 @@ fn links_of(alloc: Global, config: &Config) -> Result<Vec<LinkReport>, AllocErro
 /// Notes a line for its network.
 #[inline]
 fn note_on(own: &mut NetworkReport, line: &FrameLine, at: &LinePlace) -> Result<(), AllocError> {
-    own.note(at, line.kept)?;
+    own.note(at, size_of(line))?;
     match rule_of(line) {
         Some(rule) => own.signs.hit(rule, at, 1),
         None => Ok(()),
@@ -138,7 +146,7 @@ fn anomaly_of(word: Word) -> Option<Anomaly> {
 /// Notes a sign of a link, where it is shown by time, at the latest line of its network by then.
 fn note_sign(
     link: &mut LinkReport,
-    networks: &PerNetwork<NetworkReport>,
+    networks: &mut PerNetwork<NetworkReport>,
     start: u64,
     noted: &Noted,
 ) -> Result<(), AllocError> {
@@ -151,19 +159,17 @@ fn note_sign(
     let Some(anomaly) = anomaly_of(noted.sign.word) else {
         return Ok(());
     };
+    let own = networks.of_mut(network);
     let place = FramePlace {
         stamp: start.saturating_add(noted.at),
-        number: networks.of(network).number,
+        number: own.number,
     };
     let at = LinePlace::of(network, place, start);
-    let signs = &mut link.lanes.of_mut(network).signs;
-    match noted.count {
-        count @ 0.. => signs.hit(anomaly, &at, count.unsigned_abs()),
-        count => {
-            signs.take_back(anomaly, at.tick, count.unsigned_abs());
-            Ok(())
-        }
-    }
+    own.signs.note(anomaly, &at, noted.count)?;
+    link.lanes
+        .of_mut(network)
+        .signs
+        .note(anomaly, &at, noted.count)
 }
 
 impl Statistics {
@@ -177,6 +183,7 @@ impl Statistics {
             start: 0,
             width: FIRST_WIDTH,
             latest: None,
+            has_lengths: false,
             networks: PerNetwork {
                 a: NetworkReport::new(alloc),
                 b: NetworkReport::new(alloc),
@@ -201,30 +208,37 @@ impl Statistics {
     pub(crate) fn note(&mut self, line: &FrameLine, lines: &FrameLines) -> Result<(), AllocError> {
         let place = line.link.map_or(usize::MAX, |id| self.place_of(id));
         self.accounts.note(line, place);
+        self.has_lengths = line.length.is_some();
         let takes = match &mut self.part {
             Some(part) => part.takes(line),
             None => true,
         };
         if takes {
-            self.note_taken(line, lines)
+            self.note_taken(line, place, lines)
         } else {
             Ok(())
         }
     }
 
-    fn note_taken(&mut self, line: &FrameLine, lines: &FrameLines) -> Result<(), AllocError> {
-        let place = FramePlace {
+    /// Notes a line, whose link stands at this place in the table.
+    fn note_taken(
+        &mut self,
+        line: &FrameLine,
+        place: usize,
+        lines: &FrameLines,
+    ) -> Result<(), AllocError> {
+        let frame = FramePlace {
             stamp: line.stamp.0,
             number: line.number,
         };
-        if self.latest.replace(place.stamp).is_none() {
-            self.start = place.stamp;
+        if self.latest.replace(frame.stamp).is_none() {
+            self.start = frame.stamp;
         }
-        let at = LinePlace::of(line.network, place, self.start);
+        let at = LinePlace::of(line.network, frame, self.start);
         note_on(self.networks.of_mut(at.network), line, &at)?;
         self.analysis.note(&line_of(line))?;
         match line.link {
-            Some(id) => self.note_link(line, id, &at, lines),
+            Some(id) => self.note_link(line, (id, place), &at, lines),
             None => Ok(()),
         }
     }
@@ -241,17 +255,18 @@ impl Statistics {
     fn note_link(
         &mut self,
         line: &FrameLine,
-        id: VlId,
+        (id, place): (VlId, usize),
         at: &LinePlace,
         lines: &FrameLines,
     ) -> Result<(), AllocError> {
-        let place = self.place_of(id);
         let Some(link) = self.links.get_mut(place) else {
             return self.note_outside(id, at);
         };
-        link.note(line, at, lines.delivery_of(line))?;
+        if let Some(skew) = link.note(line, at, lines.delivery_of(line))? {
+            self.networks.of_mut(at.network).skews.put(at.tick, skew)?;
+        }
         for noted in self.analysis.noted() {
-            note_sign(link, &self.networks, self.start, noted)?;
+            note_sign(link, &mut self.networks, self.start, noted)?;
         }
         Ok(())
     }
@@ -267,8 +282,8 @@ impl Statistics {
         Ok(())
     }
 
-    /// Settles what is left once the ledger has ended, has all bins as wide as they need to be for its last
-    /// line, and adds to each network what its lanes have.
+    /// Settles what is left once the ledger has ended, and has all bins as wide as they need to be for its
+    /// last line.
     pub(crate) fn end(
         &mut self,
         endings: &PerNetwork<Option<TapEnding>>,
@@ -276,11 +291,11 @@ impl Statistics {
         self.findings = self.analysis.end(end_of(&endings.a), end_of(&endings.b))?;
         for noted in self.analysis.noted() {
             if let Some(link) = self.links.get_mut(noted.link) {
-                note_sign(link, &self.networks, self.start, noted)?;
+                note_sign(link, &mut self.networks, self.start, noted)?;
             }
         }
         let last = self.end_stamp().saturating_sub(self.start) / FIRST_WIDTH;
-        let doublings = doublings_for(last);
+        let doublings = doublings_for(last, BINS);
         let networks = &mut self.networks;
         self.width = FIRST_WIDTH.saturating_mul(2u64.saturating_pow(doublings));
         networks.a.align(doublings);
@@ -290,11 +305,8 @@ impl Statistics {
         }
         for link in self.links.iter_mut() {
             link.end();
-            link.align(doublings);
-        }
-        for link in self.links.iter() {
-            networks.a.add_lane(&link.lanes.a, &link.skews.a)?;
-            networks.b.add_lane(&link.lanes.b, &link.skews.b)?;
+            // A link has half as many bins as a network.
+            link.align(doublings.saturating_add(1));
         }
         Ok(())
     }

@@ -2,6 +2,7 @@ pub mod Blocks
 pub mod Choosing
 pub mod Decimals
 pub mod Faults
+pub mod Heads
 pub mod Ledgers
 pub mod LineEnds
 pub mod Matching

@@ -24,7 +24,8 @@ use Rattle.afdx_frame.specs.declared.key.VlId.{VlId}
 use Rattle.ledger_text.specs.Reads.{dash_or, Below}
 use Rattle.ledger_text.specs.Fields.{first_field, next_fields}
 use Rattle.ledger_text.proofs.Decimals.{own}
-use Rattle.ledger_text.specs.FrameText.{IsFrameLine, frame_fields, link_fits, link_text}
+use Rattle.ledger_text.specs.FrameText.{IsFrameLine, frame_fields, length_fields, link_fits, link_text}
+use Rattle.verdict_ledger.specs.declared.version.LedgerVersion.{LedgerVersion}
 use Rattle.ledger_text.specs.declared.frame.FrameLine.{FrameLine}
 
 -- the length and the first two letters of a word, which tell the words of one kind apart
@@ -117,8 +118,8 @@ one_link (Some x) (Some y) a b e =
     let same : x.0 ≡ y.0 = decimal_injective x.0 y.0 (omega arith) (omega arith) e in
     ap (λ (n : ℕ). Some (record { 0 = n })) same
 
-abbrev pub make : ℕ → Network → ℕ → Option VlId → Option ℕ → Class → Option Policing → Option Integrity → Option Redundancy → Option ℕ → ℕ → FrameLine
-make s n i l q c p t r k m = record {
+abbrev pub make : ℕ → Network → ℕ → Option VlId → Option ℕ → Class → Option Policing → Option Integrity → Option Redundancy → Option ℕ → ℕ → Option ℕ → FrameLine
+make s n i l q c p t r k m o = record {
   stamp = record { 0 = s };
   network = n;
   number = i;
@@ -127,6 +128,7 @@ make s n i l q c p t r k m = record {
   verdict = record { class = c; policing = p; integrity = t; redundancy = r };
   kept = k;
   mask = m;
+  length = o;
 }
 
 pub wider : (o : Option ℕ) (k : ℕ) → k ≤ 2 ^ 64 → IfSome o (Below k) → IfSome o (Below (2 ^ 64))
@@ -165,8 +167,14 @@ one_mask m n a b e =
     let low : m % 16 ≡ n % 16 = one_hex (m % 16) (n % 16) (omega arith) (omega arith) (ap (λ (l : List ℕ). get_or l 1 0) e) in
     omega arith
 
-pub one_line : (v w : FrameLine) → IsFrameLine v → IsFrameLine w → frame_fields v ≡ frame_fields w → v ≡ w
-one_line v w p q e =
+one_length : (x y : Option ℕ) → IfSome x (Below (2 ^ 32)) → IfSome y (Below (2 ^ 32)) → length_fields x ≡ length_fields y → x ≡ y
+one_length None None a b e = refl
+one_length (Some x) None a b e = absurd (omega (arith, ap (λ (l : List (List ℕ)). length l) e))
+one_length None (Some y) a b e = absurd (omega (arith, ap (λ (l : List (List ℕ)). length l) e))
+one_length (Some x) (Some y) a b e = ap Some (decimal_injective x y (omega arith) (omega arith) (ap first_field e))
+
+pub one_line : (version : LedgerVersion) (v w : FrameLine) → IsFrameLine version v → IsFrameLine version w → frame_fields v ≡ frame_fields w → v ≡ w
+one_line version v w p q e =
     let e0 = ap first_field e in
     let e1 = ap (λ (l : List (List ℕ)). first_field (next_fields l)) e in
     let e2 = ap (λ (l : List (List ℕ)). first_field (next_fields (next_fields l))) e in
@@ -178,6 +186,7 @@ one_line v w p q e =
     let e8 = ap (λ (l : List (List ℕ)). first_field (next_fields (next_fields (next_fields (next_fields (next_fields (next_fields (next_fields (next_fields l))))))))) e in
     let e9 = ap (λ (l : List (List ℕ)). first_field (next_fields (next_fields (next_fields (next_fields (next_fields (next_fields (next_fields (next_fields (next_fields l)))))))))) e in
     let e10 = ap (λ (l : List (List ℕ)). first_field (next_fields (next_fields (next_fields (next_fields (next_fields (next_fields (next_fields (next_fields (next_fields (next_fields l))))))))))) e in
+    let e11 = ap (λ (l : List (List ℕ)). next_fields (next_fields (next_fields (next_fields (next_fields (next_fields (next_fields (next_fields (next_fields (next_fields (next_fields l))))))))))) e in
     let s = decimal_injective v.stamp.0 w.stamp.0 (omega (arith, p.stamp)) (omega (arith, q.stamp)) e0 in
     let n = one_network v.network w.network e1 in
     let i = decimal_injective v.number w.number (omega (arith, p.number)) (omega (arith, q.number)) e2 in
@@ -189,6 +198,7 @@ one_line v w p q e =
     let r = one_redundancy v.verdict.redundancy w.verdict.redundancy e8 in
     let k = one_number v.kept w.kept (wider v.kept (2 ^ 32) (omega arith) p.kept) (wider w.kept (2 ^ 32) (omega arith) q.kept) e9 in
     let m = one_mask v.mask w.mask p.mask.small q.mask.small e10 in
-    let same : make v.stamp.0 v.network v.number v.link v.sequence v.verdict.class v.verdict.policing v.verdict.integrity v.verdict.redundancy v.kept v.mask
-    ≡ make w.stamp.0 w.network w.number w.link w.sequence w.verdict.class w.verdict.policing w.verdict.integrity w.verdict.redundancy w.kept w.mask = cc in
+    let o = one_length v.length w.length p.length.fits q.length.fits e11 in
+    let same : make v.stamp.0 v.network v.number v.link v.sequence v.verdict.class v.verdict.policing v.verdict.integrity v.verdict.redundancy v.kept v.mask v.length
+    ≡ make w.stamp.0 w.network w.number w.link w.sequence w.verdict.class w.verdict.policing w.verdict.integrity w.verdict.redundancy w.kept w.mask w.length = cc in
     same

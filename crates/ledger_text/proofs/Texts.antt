@@ -28,10 +28,12 @@ use Rattle.integrity.specs.Word.{integrity_word}
 use Rattle.policing.specs.Word.{policing_word}
 use Rattle.afdx_frame.specs.Frame.{network_letter}
 use Rattle.vl_config.specs.Class.{is_addressed, class_word}
-use Rattle.verdict_ledger.specs.Text.{line_text, optional_field, verdict_text, word_field, number_field, mask_text, hex_digit}
+use Rattle.verdict_ledger.specs.Text.{length_text, line_text, optional_field, verdict_text, word_field, number_field, mask_text, hex_digit}
+use Rattle.verdict_ledger.specs.declared.version.LedgerVersion.{LedgerVersion}
+use Rattle.verdict_ledger.specs.declared.version.LedgerVersion.TheVariants.{Two, Three}
 use Rattle.ledger_text.specs.Reads.{dash_or, Below}
 use Rattle.ledger_text.specs.Fields.{fields_of, is_space}
-use Rattle.ledger_text.specs.FrameText.{IsFrameLine, IsFrameText, frame_fields, link_fits, link_text, shown}
+use Rattle.ledger_text.specs.FrameText.{IsFrameLine, IsFrameText, frame_fields, length_fields, length_shown, link_fits, link_text, shown}
 use Rattle.ledger_text.specs.declared.frame.FrameLine.{FrameLine}
 use Rattle.ledger_text.proofs.Decimals.{own, first_true, second_true, both_true}
 
@@ -62,15 +64,33 @@ spread : (a b c l q w x y z k m n : List ℕ)
 spread a b c l q w x y z k m n =
     flat a (32 ∷ b) (32 ∷ c) (32 ∷ l) (32 ∷ q) (32 ∷ w) (32 ∷ x) (32 ∷ y) (32 ∷ z) (32 ∷ k) (32 ∷ m) n
 
-pub entry_text : (e : Entry) → line_text e ≡ join_with_byte 32 (frame_fields (shown e)) ++ codes "\n"
+flat_more : (a b c l q w x y z k m o n : List ℕ)
+    → a ++ (b ++ (c ++ ((l ++ q) ++ ((w ++ (x ++ (y ++ z))) ++ (k ++ (m ++ (o ++ n)))))))
+    ≡ (a ++ (b ++ (c ++ (l ++ (q ++ (w ++ (x ++ (y ++ (z ++ (k ++ (m ++ o))))))))))) ++ n
+flat_more a b c l q w x y z k m o n = simp append_assoc
+
+spread_more : (a b c l q w x y z k m o n : List ℕ)
+    → a ++ ((32 ∷ b) ++ ((32 ∷ c) ++ (((32 ∷ l) ++ (32 ∷ q)) ++ (((32 ∷ w) ++ ((32 ∷ x) ++ ((32 ∷ y) ++ (32 ∷ z)))) ++ ((32 ∷ k) ++ ((32 ∷ m) ++ ((32 ∷ o) ++ n)))))))
+    ≡ join_with_byte 32 (a ∷ b ∷ c ∷ l ∷ q ∷ w ∷ x ∷ y ∷ z ∷ k ∷ m ∷ o ∷ []) ++ n
+spread_more a b c l q w x y z k m o n =
+    flat_more a (32 ∷ b) (32 ∷ c) (32 ∷ l) (32 ∷ q) (32 ∷ w) (32 ∷ x) (32 ∷ y) (32 ∷ z) (32 ∷ k) (32 ∷ m) (32 ∷ o) n
+
+spread_last : (version : LedgerVersion) (whole : ℕ) (a b c l q w x y z k m n : List ℕ)
+    → a ++ ((32 ∷ b) ++ ((32 ∷ c) ++ (((32 ∷ l) ++ (32 ∷ q)) ++ (((32 ∷ w) ++ ((32 ∷ x) ++ ((32 ∷ y) ++ (32 ∷ z)))) ++ ((32 ∷ k) ++ ((32 ∷ m) ++ (length_text version whole ++ n)))))))
+    ≡ join_with_byte 32 (a ∷ b ∷ c ∷ l ∷ q ∷ w ∷ x ∷ y ∷ z ∷ k ∷ m ∷ length_fields (length_shown version whole)) ++ n
+spread_last Two whole a b c l q w x y z k m n = spread a b c l q w x y z k m n
+spread_last Three whole a b c l q w x y z k m n = spread_more a b c l q w x y z k m (decimal whole) n
+
+pub entry_text : (version : LedgerVersion) (e : Entry) → line_text version e ≡ join_with_byte 32 (frame_fields (shown version e)) ++ codes "\n"
 unfolding line_text
-entry_text e =
-    let v = shown e in
-    let rest = optional_field e.keep ++ (word_field (mask_text e.mask) ++ codes "\n") in
+entry_text version e =
+    let v = shown version e in
+    let last = word_field (mask_text e.mask) ++ (length_text version e.frame.whole ++ codes "\n") in
+    let rest = optional_field e.keep ++ last in
     let front = λ (x : List ℕ). decimal e.frame.stamp ++ (word_field (network_letter e.frame.network) ++ (number_field e.frame.number ++ x)) in
     ap (λ (x : List ℕ). front (x ++ (verdict_text e.verdict ++ rest))) (address_by (is_addressed e.verdict.class) (link_of e.frame.bytes) (sequence_of e.frame.bytes))
-    ∙ ap (λ (x : List ℕ). front (((32 ∷ dash_or link_text v.link) ++ (32 ∷ dash_or decimal v.sequence)) ++ (verdict_text e.verdict ++ (x ++ (word_field (mask_text e.mask) ++ codes "\n"))))) (optional_is e.keep)
-    ∙ spread (decimal v.stamp.0) (network_letter v.network) (decimal v.number) (dash_or link_text v.link) (dash_or decimal v.sequence) (class_word v.verdict.class)
+    ∙ ap (λ (x : List ℕ). front (((32 ∷ dash_or link_text v.link) ++ (32 ∷ dash_or decimal v.sequence)) ++ (verdict_text e.verdict ++ (x ++ last)))) (optional_is e.keep)
+    ∙ spread_last version e.frame.whole (decimal v.stamp.0) (network_letter v.network) (decimal v.number) (dash_or link_text v.link) (dash_or decimal v.sequence) (class_word v.verdict.class)
     (dash_or policing_word v.verdict.policing) (dash_or integrity_word v.verdict.integrity) (dash_or redundancy_word v.verdict.redundancy) (dash_or decimal v.kept) (mask_text v.mask) (codes "\n")
 
 -- ---- no field has a byte up to the space
@@ -160,8 +180,12 @@ mask_clear m h =
     both_true (nat_lt 32 (hex_digit (m / 16))) (is_clear (hex_digit (m % 16) ∷ [])) (hex_clear (m / 16) (omega arith))
     (both_true (nat_lt 32 (hex_digit (m % 16))) true (hex_clear (m % 16) (omega arith)) refl)
 
-pub all_clear : (v : FrameLine) → IsFrameLine v → AllClear (frame_fields v)
-all_clear v z = (
+length_clear : (o : Option ℕ) → IfSome o (Below (2 ^ 32)) → AllClear (length_fields o)
+length_clear None h = tt
+length_clear (Some n) h = (decimal_clear n (omega arith), tt)
+
+pub all_clear : (version : LedgerVersion) (v : FrameLine) → IsFrameLine version v → AllClear (frame_fields v)
+all_clear version v z = (
   decimal_clear v.stamp.0 (omega (arith, z.stamp)),
   (
     network_clear v.network,
@@ -179,7 +203,7 @@ all_clear v z = (
                 integrity_clear v.verdict.integrity,
                 (
                   redundancy_clear v.verdict.redundancy,
-                  (number_clear v.kept (2 ^ 32) (omega arith) z.kept, (mask_clear v.mask z.mask.small, tt)),
+                  (number_clear v.kept (2 ^ 32) (omega arith) z.kept, (mask_clear v.mask z.mask.small, length_clear v.length z.length.fits)),
                 ),
               ),
             ),
@@ -209,15 +233,16 @@ split_join x [] h = split_last x h.0
 split_join x (y ∷ ys) h =
     split_at_space x (join_with_byte 32 (y ∷ ys)) h.0 ∙ ap (λ (l : List (List ℕ)). x ∷ l) (split_join y ys h.1)
 
-pub fields_split : (v : FrameLine) → IsFrameLine v → fields_of (join_with_byte 32 (frame_fields v)) ≡ frame_fields v
-fields_split v z = split_join _ _ (all_clear v z)
+pub fields_split : (version : LedgerVersion) (v : FrameLine) → IsFrameLine version v → fields_of (join_with_byte 32 (frame_fields v)) ≡ frame_fields v
+fields_split version v z = split_join _ _ (all_clear version v z)
 
-pub reads_back : (e : Entry) (line : List ℕ) → IsFrameLine (shown e) → line_text e ≡ line ++ codes "\n" → IsFrameText line (shown e)
-reads_back e line z t =
-    let joined = join_with_byte 32 (frame_fields (shown e)) in
-    let same : joined ≡ line = append_cancel_right joined line (codes "\n") (sym (entry_text e) ∙ t) in
-    record { values = z; fields = ap fields_of (sym same) ∙ fields_split (shown e) z }
+pub reads_back : (version : LedgerVersion) (e : Entry) (line : List ℕ) → IsFrameLine version (shown version e) → line_text version e ≡ line ++ codes "\n"
+    → IsFrameText version line (shown version e)
+reads_back version e line z t =
+    let joined = join_with_byte 32 (frame_fields (shown version e)) in
+    let same : joined ≡ line = append_cancel_right joined line (codes "\n") (sym (entry_text version e) ∙ t) in
+    record { values = z; fields = ap fields_of (sym same) ∙ fields_split version (shown version e) z }
 
-pub is_text : (e : Entry) (line : List ℕ) → IsFrameText line (shown e) → line_text e ≡ line ++ codes "\n"
-is_text e line p =
-    entry_text e ∙ ap (λ (x : List ℕ). x ++ codes "\n") (ap (join_with_byte 32) (sym p.fields) ∙ join_with_byte-slice_split 32 line)
+pub is_text : (version : LedgerVersion) (e : Entry) (line : List ℕ) → IsFrameText version line (shown version e) → line_text version e ≡ line ++ codes "\n"
+is_text version e line p =
+    entry_text version e ∙ ap (λ (x : List ℕ). x ++ codes "\n") (ap (join_with_byte 32) (sym p.fields) ∙ join_with_byte-slice_split 32 line)

@@ -2,6 +2,8 @@
 use Rattle.std.specs.Prelude.{◌≡◌, ◌≢◌, ℕ, Bool, true, false, List, codes, Result, Ok, Err}
 use Rattle.ledger_text.specs.Fields.{fields_of, first_field}
 use Rattle.ledger_text.specs.FrameText.{IsFrameText, IsFrameFault}
+use Rattle.verdict_ledger.specs.declared.version.LedgerVersion.{LedgerVersion}
+use Rattle.verdict_ledger.specs.declared.version.LedgerVersion.TheVariants.{Two, Three}
 use Rattle.ledger_text.specs.declared.order.Counts.{Counts}
 use Rattle.ledger_text.specs.declared.order.Counts.TheVariants as counts
 use Rattle.ledger_text.specs.declared.order.LedgerStage.{LedgerStage}
@@ -12,8 +14,9 @@ use Rattle.ledger_text.specs.declared.fault.LineFault.{LineFault}
 use Rattle.ledger_text.specs.declared.fault.LineFault.TheVariants as faults
 
 -- the head, without its newline
-abbrev pub head_line : List ℕ
-head_line = codes "afdx-ledger 2"
+abbrev pub head_line : LedgerVersion → List ℕ
+head_line Two = codes "afdx-ledger 2"
+head_line Three = codes "afdx-ledger 3"
 
 -- the word that a line of counts begins with
 abbrev pub counts_word : Counts → List ℕ
@@ -38,16 +41,16 @@ IsCounts line kind = counts_word kind ≡ first_field (fields_of line)
 
 -- the kind of a line at this place
 abbrev pub IsLineAt : LedgerStage → List ℕ → LedgerLine → Type 0
-IsLineAt stages.Head line lines.Head = line ≡ head_line
-IsLineAt stages.Frames line (lines.Frame v) = IsFrameText line v
-IsLineAt stages.Frames line (lines.Counts kind) = IsCounts line kind
+IsLineAt stages.Head line (lines.Head version) = line ≡ head_line version
+IsLineAt (stages.Frames version) line (lines.Frame v) = IsFrameText version line v
+IsLineAt (stages.Frames version) line (lines.Counts kind) = IsCounts line kind
 IsLineAt (stages.Counts last) line (lines.Counts kind) = IsCounts line kind × (may_follow last kind ≡ true)
 IsLineAt _ line _ = ⊥
 
 -- the fault of a line at this place, at which none is that stands there
 abbrev pub IsLineFaultAt : LedgerStage → List ℕ → LineFault → Type 0
-IsLineFaultAt stages.Head line faults.Head = line ≢ head_line
-IsLineFaultAt stages.Frames line (faults.Frame fault) = IsFrameFault (fields_of line) fault × ((kind : Counts) → IsCounts line kind → ⊥)
+IsLineFaultAt stages.Head line faults.Head = (version : LedgerVersion) → line ≢ head_line version
+IsLineFaultAt (stages.Frames version) line (faults.Frame fault) = IsFrameFault version (fields_of line) fault × ((kind : Counts) → IsCounts line kind → ⊥)
 IsLineFaultAt (stages.Counts last) line faults.Order = (kind : Counts) → IsCounts line kind → may_follow last kind ≡ true → ⊥
 IsLineFaultAt _ line _ = ⊥
 

@@ -1,5 +1,6 @@
 -- Where a reader stands in a ledger: what stands before the next line, and how many lines do.
 use Rattle.std.specs.Prelude.{◌≡◌, ℕ, ◌+◌, ◌<◌, List, Bool, true, false, Result, Ok, Err}
+use Rattle.ledger_text.specs.FrameText.{version_of}
 use Rattle.ledger_text.specs.Order.{IsLineAt, IsLineFaultAt}
 use Rattle.ledger_text.specs.declared.order.Counts.TheVariants as counts
 use Rattle.ledger_text.specs.declared.order.LedgerStage.{LedgerStage}
@@ -16,8 +17,8 @@ use Rattle.ledger_text.specs.declared.reader.FoundLine.TheVariants as found
 
 -- the stage before the line after this one
 abbrev pub stage_after : LedgerLine → LedgerStage
-stage_after lines.Head = stages.Frames
-stage_after (lines.Frame v) = stages.Frames
+stage_after (lines.Head version) = stages.Frames version
+stage_after (lines.Frame v) = stages.Frames (version_of v)
 stage_after (lines.Counts kind) = stages.Counts kind
 
 -- the line `total` stands before

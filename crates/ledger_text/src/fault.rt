@@ -43,16 +43,19 @@ pub enum FrameFault {
     /// bytes, and none after a dash.
     #[error("the mask")]
     Mask,
-    /// More stands after field 11.
-    #[error("more than eleven fields")]
+    /// Field 12 is no length on the wire: a decimal number below 2^32. Version 3 has it.
+    #[error("the length on the wire")]
+    Length,
+    /// More stands after the last field: field 11, and in version 3 field 12.
+    #[error("more fields")]
     Fields,
 }
 
 /// The faults of a line at its place in a ledger.
 #[derive(Clone, Copy, Debug, PartialEq, Eq, Error)]
 pub enum LineFault {
-    /// The first line is not `afdx-ledger 2`.
-    #[error("no ledger of version 2")]
+    /// The first line is neither `afdx-ledger 2` nor `afdx-ledger 3`.
+    #[error("no ledger of version 2 or 3")]
     Head,
     /// The line of a frame departs at this field.
     #[error("{0}")]

@@ -1,9 +1,12 @@
 //! The line of a frame.
-ghost use Rattle.std.specs.Prelude.{◌≡◌, ◌^◌, IfSome, decimal, is_some};
+ghost use Rattle.std.specs.Prelude.{◌≡◌, ◌≢◌, ◌^◌, [], IfSome, MatchResult, decimal, is_some};
 ghost use Rattle.verdict_ledger.specs.Entry.{entry_with};
 ghost use Rattle.vl_config.specs.Class.{class_word, is_addressed};
 ghost use Rattle.verdict_ledger.specs.Text.{mask_text};
-ghost use Rattle.ledger_text.specs.FrameText.{IsMaskOf, IsReadOf, link_fits, link_text, shown};
+ghost use Rattle.ledger_text.specs.Fields.{left_of};
+ghost use Rattle.ledger_text.specs.FrameText.{IsLengthRead, IsMaskOf, IsReadOf, link_fits, link_text, shown, version_of};
+ghost use Rattle.ledger_text.specs.declared.fault.FrameFault.TheVariants as faults;
+ghost use Rattle.verdict_ledger.specs.declared.version.LedgerVersion.TheVariants.{Two};
 ghost use Rattle.ledger_text.specs.Reads.{Below, Optional, Reads, dash_or};
 
 use crate::fault::FrameFault;
@@ -15,6 +18,7 @@ use crate::words::{integrity_of, mask_of, policing_of, redundancy_of};
 const STAMP_BOUND: u64 = 1_000_000_000 << 32;
 
 use afdx_frame::{LentFrame, Network, Stamp, VlId};
+use verdict_ledger::LedgerVersion;
 use vl_config::Class;
 use vl_judge::Verdict;
 
@@ -37,14 +41,16 @@ pub struct FrameLine {
     pub kept: Option<u32>,
     /// The mask of the filters that accept the frame: bit i is that of filter i.
     pub mask: u8,
+    /// The frame's length on the wire, in bytes, where the ledger is of version 3.
+    pub length: Option<u32>,
 }
 
 impl FrameLine {
-    /// The line of a frame that has this verdict, of which a filter keeps so many bytes, and which
-    /// these filters accept.
+    /// The line of version 2 of a frame that has this verdict, of which a filter keeps so many bytes, and
+    /// which these filters accept.
     #[inline]
     pub fn of(frame: &LentFrame<'_>, verdict: &Verdict, kept: Option<u32>, mask: u8) -> FrameLine
-        ensures { result ≡ shown (entry_with frame.now verdict.now kept mask) }
+        ensures { result ≡ shown Two (entry_with frame.now verdict.now kept mask) }
     {
         let (link, sequence) = if verdict.class.is_addressed() {
             (frame.view().vl(), frame.view().sequence())
@@ -60,6 +66,18 @@ impl FrameLine {
             verdict: *verdict,
             kept,
             mask,
+            length: None,
+        }
+    }
+
+    /// The version of a ledger that has this line.
+    #[inline]
+    pub fn version(&self) -> LedgerVersion
+        ensures { result ≡ version_of self.now }
+    {
+        match self.length {
+            None => LedgerVersion::Two,
+            Some(_) => LedgerVersion::Three,
         }
     }
 }
@@ -124,10 +142,37 @@ fn mask_with(field: &[u8], kept: Option<u32>) -> Option<u8>
     }
 }
 
-/// Reads the line of a frame, without its newline.
+/// The length, if no field is left after it.
+#[inline(always)]
+fn last_of(length: Option<u32>, fields: Fields<'_>) -> Result<Option<u32>, FrameFault>
+    ensures { MatchResult result (λ last. (last ≡ length) × (left_of fields.entry ≡ []))
+        (λ fault. (fault ≡ faults.Fields) × (left_of fields.entry ≢ [])) }
+{
+    if fields.is_at_end() {
+        Ok(length)
+    } else {
+        Err(FrameFault::Fields)
+    }
+}
+
+/// The length on the wire, where a line of this version has it, if that is all that is left.
+#[inline(always)]
+fn length_of(version: LedgerVersion, mut fields: Fields<'_>) -> Result<Option<u32>, FrameFault>
+    ensures { IsLengthRead version (left_of fields.entry) result }
+{
+    match version {
+        LedgerVersion::Two => last_of(None, fields),
+        LedgerVersion::Three => {
+            let length = number_of(fields.next(), 1 << 32).ok_or(FrameFault::Length)?;
+            last_of(Some(length as u32), fields)
+        }
+    }
+}
+
+/// Reads the line of a frame of a ledger of this version, without its newline.
 #[inline]
-pub fn read_frame(line: &[u8]) -> Result<FrameLine, FrameFault>
-    ensures { IsReadOf line.now result }
+pub fn read_frame(version: LedgerVersion, line: &[u8]) -> Result<FrameLine, FrameFault>
+    ensures { IsReadOf version line.now result }
 {
     let mut fields = Fields::new(line);
     let stamp = number_of(fields.next(), STAMP_BOUND).ok_or(FrameFault::Timestamp)?;
@@ -147,9 +192,7 @@ pub fn read_frame(line: &[u8]) -> Result<FrameLine, FrameFault>
     };
     let kept = kept_of(fields.next()).ok_or(FrameFault::Kept)?;
     let mask = mask_with(fields.next(), kept).ok_or(FrameFault::Mask)?;
-    if !fields.is_at_end() {
-        return Err(FrameFault::Fields);
-    }
+    let length = length_of(version, fields)?;
     Ok(FrameLine {
         stamp: Stamp(stamp),
         network,
@@ -159,5 +202,6 @@ pub fn read_frame(line: &[u8]) -> Result<FrameLine, FrameFault>
         verdict,
         kept,
         mask,
+        length,
     })
 }

@@ -1,4 +1,4 @@
-//! Reads a ledger of version 2 line by line, as a stream.
+//! Reads a ledger of version 2 or 3 line by line, as a stream.
 //!
 //! A [`LedgerReader`] reads from a [`TapSource`](pcap_io::TapSource) a block of 64 KiB at a time, and
 //! allocates that block alone. Each call finds the next line, and lends its bytes until the next call.
@@ -14,7 +14,7 @@
 //!
 //! - [`LedgerReader`], with [`FoundLine`], [`LedgerLine`] and [`Counts`], and its faults [`ReadFault`] and
 //!   [`LineFault`]. The first wrong line is named by its number, counted from 1.
-//! - [`read_frame`], the values of a frame's line ([`FrameLine`]), or its first wrong field
+//! - [`read_frame`], the values of a frame's line ([`FrameLine`]) of a version, or its first wrong field
 //!   ([`FrameFault`]); [`read_line`], a line at its place ([`LedgerStage`]).
 //! - [`LineSource`], the lines of any source, with [`LineFound`].
 //! - [`Selection`], which lines are taken, by words and fields, with the links of a [`LinkSet`]; [`Chooser`],

@@ -1,5 +1,5 @@
 //! The selected lines of a link, and which of its lines are near them.
-ghost use Rattle.std.specs.Prelude.{◌≡◌, ◌<◌, ◌+◌, ◌↔◌, [], MatchResult, IsTrue, true, false};
+ghost use Rattle.std.specs.Prelude.{◌≡◌, ◌<◌, ◌≤◌, ◌+◌, ◌↔◌, [], MatchResult, OnErr, IsTrue, true, false, vec_capacity, vec_len};
 ghost use Rattle.ledger_text.specs.declared.bounds.TheConstants.{MAX_LINES};
 ghost use Rattle.ledger_text.specs.Runs.{AllBefore, AreApart, Covers, HasAdded, StandsAt};
 
@@ -17,9 +17,11 @@ pub(crate) struct Run {
 /// between them is near one of the two, and else it begins a run.
 #[inline]
 fn add(runs: &mut Vec<Run>, around: u32, ordinal: u64) -> Result<(), AllocError>
-    ensures { AreApart runs.old.items → AllBefore runs.old.items ordinal →
+    ensures added { AreApart runs.old.items → AllBefore runs.old.items ordinal →
         MatchResult result (λ _. HasAdded around runs.old.items ordinal runs.new.items)
         (λ _. runs.new.items ≡ runs.old.items) }
+    // Only a run that begins asks for memory, where the list has no room for it.
+    ensures memory { OnErr result (vec_capacity runs.old ≤ vec_len runs.old) }
 {
     let closest = 2 * u64::from(around) + 1;
     match runs.last_mut() {
@@ -68,6 +70,8 @@ impl LinkRuns {
             MatchResult result (λ _. HasAdded around self.old.runs.items self.old.noted self.new.runs.items)
             (λ _. self.new.runs.items ≡ self.old.runs.items) }
         ensures passed { selected ≡ false → self.new.runs.items ≡ self.old.runs.items }
+        ensures memory { OnErr result ((selected ≡ true)
+            × (vec_capacity self.old.runs ≤ vec_len self.old.runs)) }
         ensures same { (self.new.asked ≡ self.old.asked) × (self.new.next ≡ self.old.next) }
     {
         if selected {

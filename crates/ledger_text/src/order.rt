@@ -1,6 +1,7 @@
 //! Which lines a ledger has, and in which order.
-ghost use Rattle.std.specs.Prelude.{◌≡◌, ◌≢◌};
+ghost use Rattle.std.specs.Prelude.{◌≡◌, ◌≢◌, MatchOption};
 ghost use Rattle.std.specs.Bool.{MatchBool};
+ghost use Rattle.verdict_ledger.specs.declared.version.LedgerVersion.{LedgerVersion};
 ghost use Rattle.ledger_text.specs.Reads.{Any, Reads};
 ghost use Rattle.ledger_text.specs.Order.{IsLineRead, counts_word, head_line, may_follow};
 ghost use Rattle.ledger_text.specs.Fields.{fields_of, first_field};
@@ -8,6 +9,7 @@ ghost use Rattle.ledger_text.specs.Fields.{fields_of, first_field};
 use crate::fault::LineFault;
 use crate::fields::Fields;
 use crate::frame::{FrameLine, read_frame};
+use verdict_ledger::LedgerVersion;
 
 /// The lines of counts, by their first word, in the order in which they stand.
 #[derive(Clone, Copy, Debug, PartialEq, Eq)]
@@ -27,8 +29,8 @@ pub enum Counts {
 pub enum LedgerStage {
     /// Nothing: the head is next.
     Head,
-    /// The head, or the line of a frame.
-    Frames,
+    /// The head, or the line of a frame, of a ledger of this version.
+    Frames(LedgerVersion),
     /// A line of counts.
     Counts(Counts),
 }
@@ -36,8 +38,8 @@ pub enum LedgerStage {
 /// A line of a ledger.
 #[derive(Clone, Copy, PartialEq, Eq)]
 pub enum LedgerLine {
-    /// The head.
-    Head,
+    /// The head, of this version.
+    Head(LedgerVersion),
     /// The line of a frame.
     Frame(FrameLine),
     /// A line of counts.
@@ -79,12 +81,31 @@ fn first_word(line: &[u8]) -> &[u8]
     Fields::new(line).next()
 }
 
-/// Is this the head of a ledger of version 2?
+/// Is this the head of a ledger of this version?
 #[inline]
-fn is_head(line: &[u8]) -> bool
-    ensures { MatchBool result (line.now ≡ head_line) (line.now ≢ head_line) }
+fn is_head(line: &[u8], version: LedgerVersion) -> bool
+    ensures { MatchBool result (line.now ≡ head_line version) (line.now ≢ head_line version) }
 {
-    line == b"afdx-ledger 2".as_slice()
+    match version {
+        LedgerVersion::Two => line == b"afdx-ledger 2".as_slice(),
+        LedgerVersion::Three => line == b"afdx-ledger 3".as_slice(),
+    }
+}
+
+/// The version of the ledger whose head this is.
+#[inline]
+#[tactic(auto, using(crate::proofs::Heads::no_head))]
+fn version_of(line: &[u8]) -> Option<LedgerVersion>
+    ensures { MatchOption result ((version : LedgerVersion) → line.now ≢ head_line version)
+        (λ version. line.now ≡ head_line version) }
+{
+    if is_head(line, LedgerVersion::Two) {
+        Some(LedgerVersion::Two)
+    } else if is_head(line, LedgerVersion::Three) {
+        Some(LedgerVersion::Three)
+    } else {
+        None
+    }
 }
 
 /// Reads a line, without its newline, that stands at this place.
@@ -93,16 +114,13 @@ pub fn read_line(stage: LedgerStage, line: &[u8]) -> Result<LedgerLine, LineFaul
     ensures { IsLineRead stage line.now result }
 {
     match stage {
-        LedgerStage::Head => {
-            if is_head(line) {
-                Ok(LedgerLine::Head)
-            } else {
-                Err(LineFault::Head)
-            }
-        }
-        LedgerStage::Frames => match counts_of(first_word(line)) {
+        LedgerStage::Head => match version_of(line) {
+            Some(version) => Ok(LedgerLine::Head(version)),
+            None => Err(LineFault::Head),
+        },
+        LedgerStage::Frames(version) => match counts_of(first_word(line)) {
             Some(counts) => Ok(LedgerLine::Counts(counts)),
-            None => match read_frame(line) {
+            None => match read_frame(version, line) {
                 Ok(frame) => Ok(LedgerLine::Frame(frame)),
                 Err(fault) => Err(LineFault::Frame(fault)),
             },

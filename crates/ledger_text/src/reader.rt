@@ -36,7 +36,8 @@ fn stage_after(line: &LedgerLine) -> LedgerStage
     ensures { result ≡ stage_after line.now }
 {
     match line {
-        LedgerLine::Head | LedgerLine::Frame(_) => LedgerStage::Frames,
+        LedgerLine::Head(version) => LedgerStage::Frames(*version),
+        LedgerLine::Frame(frame) => LedgerStage::Frames(frame.version()),
         LedgerLine::Counts(counts) => LedgerStage::Counts(*counts),
     }
 }

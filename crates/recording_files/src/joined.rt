@@ -209,9 +209,17 @@ impl<F: TapSource + Drop, P: FileSupply<F>> JoinedSource<P, F> {
         ensures kept { KeepsGiven (known_of F.remaining F.told P.files self.old)
             (known_of F.remaining F.told P.files self.new) }
         ensures failures { self.new.failures ≡ self.old.failures }
-        // A file that was opened is counted.
+        // A file that was opened is counted, and is one of those that were to come.
         ensures opened { self.new.stage ≡ stages.FileHeader place
             → self.new.opened ≡ min (self.old.opened + 1) (2 ^ 64 - 1) }
+        ensures one { self.new.stage ≡ stages.FileHeader place
+            → P.left self.old.supply ≡ P.left self.new.supply + 1 }
+        // Nothing more is read only where no file was to come.
+        ensures all { is_over self.new.stage ≡ true → P.left self.old.supply ≡ 0 }
+        // It fails only where the supply does, which has as many files to come as before.
+        ensures fault { OnErr result
+            (CountsFailure (P.failures self.old.supply) (P.failures self.new.supply)) }
+        ensures same { OnErr result (P.left self.new.supply ≡ P.left self.old.supply) }
     {
         let last = self.take_read();
         match (self.supply.next_file(last)?, place) {
@@ -299,6 +307,11 @@ impl<F: TapSource + Drop, P: FileSupply<F>> JoinedSource<P, F> {
         ensures kept { KeepsGiven (known_of F.remaining F.told P.files self.old)
             (known_of F.remaining F.told P.files self.new) }
         ensures failures { self.new.failures ≡ self.old.failures }
+        // Between two files it fails only where the supply does, and ends only where no file was to come.
+        ensures fault { OnErr result ((place : WhichFile) → self.old.stage ≡ stages.File place
+            → CountsFailure (P.failures self.old.supply) (P.failures self.new.supply)) }
+        ensures all { (place : WhichFile) → self.old.stage ≡ stages.File place
+            → is_over self.new.stage ≡ true → P.left self.old.supply ≡ 0 }
     {
         match self.stage {
             FilesStage::File(place) => self.open_next(place),

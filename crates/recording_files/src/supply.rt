@@ -1,8 +1,8 @@
 //! Where files come from.
-ghost use Rattle.std.specs.Prelude.{ℕ, List, Option, None, IfOk, OnOk, OnErr};
+ghost use Rattle.std.specs.Prelude.{◌≡◌, ℕ, List, Option, None, IfOk, OnOk, OnErr};
 ghost use Rattle.pcap_io.specs.Device.{CountsFailure, NoFailure};
 ghost use Rattle.pcapng.specs.Given.{Given};
-ghost use Rattle.recording_files.specs.Supply.{GivesNext, KeepsFiles};
+ghost use Rattle.recording_files.specs.Supply.{CountsNext, GivesNext, KeepsFiles};
 
 use pcap_io::{DeviceFault, TapSource};
 
@@ -24,6 +24,9 @@ pub trait FileSupply<F: TapSource> {
     /// them.
     ghost files: { Self → Option (List Given) } = { λ _. None };
 
+    /// How many files are still to come.
+    ghost left: { Self → ℕ };
+
     /// How often the supply has failed.
     ghost failures: { Self → ℕ };
 
@@ -32,6 +35,8 @@ pub trait FileSupply<F: TapSource> {
         // A fault takes no file.
         ensures next { IfOk result (GivesNext F.remaining F.told (files self.old) (files self.new)) }
         ensures kept { OnErr result (KeepsFiles (files self.old) (files self.new)) }
+        ensures count { IfOk result (CountsNext (left self.old) (left self.new)) }
+        ensures same { OnErr result (left self.new ≡ left self.old) }
         ensures no_failure { OnOk result (NoFailure (failures self.old) (failures self.new)) }
         ensures fault { OnErr result (CountsFailure (failures self.old) (failures self.new)) };
 }

@@ -6,7 +6,7 @@ use crate::writer::Page;
 use crate::writer::Part::{self, Clock, Hundredths, Number, Tenths, Text, Tick};
 use afdx_frame::{Network, VlId};
 use findings::{Finding, Kind as Found, Side, Span};
-use ledger_report::{BINS, LinkReport, Series};
+use ledger_report::{BINS, LaneReport, LinkReport, Measure, Series};
 
 /// How the bins of a column become one number.
 #[derive(Clone, Copy, PartialEq, Eq)]
@@ -41,17 +41,33 @@ impl Columns {
         }
     }
 
+    /// Puts the number of one of so many bins into its column.
+    fn put(&mut self, bin: usize, bins: usize, value: u64) {
+        let first = bin.saturating_mul(BINS).checked_div(bins).unwrap_or(0);
+        let column = first.checked_div(self.per).unwrap_or(0);
+        if let Some(held) = self.values.get_mut(column) {
+            *held = match self.kind {
+                Kind::Sum => held.saturating_add(value),
+                Kind::Least => (*held).min(value),
+                Kind::Greatest => (*held).max(value),
+            };
+        }
+    }
+
     /// These with the numbers of a series.
     pub fn with(mut self, series: &Series) -> Columns {
-        let (kind, per) = (self.kind, self.per);
-        for (bin, value) in series.bins().iter().enumerate() {
-            if let Some(held) = self.values.get_mut(bin.checked_div(per).unwrap_or(0)) {
-                *held = match kind {
-                    Kind::Sum => held.saturating_add(*value),
-                    Kind::Least => (*held).min(*value),
-                    Kind::Greatest => (*held).max(*value),
-                };
-            }
+        let bins = series.bins();
+        for (bin, value) in bins.iter().enumerate() {
+            self.put(bin, bins.len(), *value);
+        }
+        self
+    }
+
+    /// These with a number of a lane's lines.
+    pub fn with_lane(mut self, lane: &LaneReport, measure: Measure) -> Columns {
+        let bins = lane.activity.bins();
+        for (bin, held) in bins.iter().enumerate() {
+            self.put(bin, bins.len(), held.number(measure));
         }
         self
     }
@@ -397,7 +413,7 @@ fn push_limits(page: &mut Page, view: &View<'_>, high: u64, low: u64) {
     page.text("\"/>");
 }
 
-/// Appends a row up to its value, and gives its greatest number, at least 1.
+/// Appends a row of series up to its value, and gives its greatest number, at least 1.
 pub fn push_row(
     page: &mut Page,
     view: &View<'_>,
@@ -407,14 +423,39 @@ pub fn push_row(
 ) -> u64 {
     let empty = Columns::new(view, drawing.kind, drawing.per);
     let (a, b) = (empty.with(series.0), empty.with(series.1));
+    push_columns(page, view, texts, drawing, (&a, &b))
+}
+
+/// The same of a number of a link's lines.
+pub fn push_link_row(
+    page: &mut Page,
+    view: &View<'_>,
+    texts: Texts<'_>,
+    drawing: Drawing,
+    (link, measure): (&LinkReport, Measure),
+) -> u64 {
+    let empty = Columns::new(view, drawing.kind, drawing.per);
+    let a = empty.with_lane(&link.lanes.a, measure);
+    let b = empty.with_lane(&link.lanes.b, measure);
+    push_columns(page, view, texts, drawing.of(link), (&a, &b))
+}
+
+/// Appends a row of columns up to its value, and gives its greatest number, at least 1.
+fn push_columns(
+    page: &mut Page,
+    view: &View<'_>,
+    texts: Texts<'_>,
+    drawing: Drawing,
+    (a, b): (&Columns, &Columns),
+) -> u64 {
     let (peak, base) = (a.peak().max(b.peak()).max(1), drawing.height / 2);
     let top = peak.max(share(drawing.limit, 115, 100));
     let high = base.saturating_sub(1);
     let (above, below) = (Stair::Above(base), Stair::Below(base));
     begin_row(page, view, texts, drawing.height);
     push_halves(page, view, base, drawing.pauses);
-    push_stair(page, drawing.classes.0, &a, (top, high), above);
-    push_stair(page, drawing.classes.1, &b, (top, high), below);
+    push_stair(page, drawing.classes.0, a, (top, high), above);
+    push_stair(page, drawing.classes.1, b, (top, high), below);
     page.text("<path class=\"zl\" d=\"");
     page.path(&[("M0 ", base), ("H", view.used as u64)]);
     page.text("\"/>");
@@ -469,8 +510,11 @@ pub fn push_intervals(
 ) {
     let (bag, height) = (link.bag, drawing.height);
     let lane = link.lanes.of(network);
-    let least = Columns::new(view, Kind::Least, drawing.per).with(&lane.least_bins);
-    let greatest = Columns::new(view, Kind::Greatest, drawing.per).with(&lane.greatest_bins);
+    let least = Columns::new(view, Kind::Least, drawing.per).with_lane(lane, Measure::Least);
+    let greatest = Columns::new(view, Kind::Greatest, drawing.per).with_lane(
+        lane,
+        Measure::Greatest,
+    );
     begin_row(page, view, texts, height);
     push_marks(page, view, network, (0, height), drawing.pauses);
     fill!(page; PATH; class = Text(drawing.classes.0));

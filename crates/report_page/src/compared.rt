@@ -1,5 +1,6 @@
 //! Two flights: what is otherwise in their tables, and what is found in one of them alone.
 
+use crate::groups::group_of;
 use crate::view::View;
 use afdx_frame::VlId;
 use findings::{Finding, Findings, Kind};
@@ -56,7 +57,7 @@ impl Revision {
 }
 
 /// The keys of a link's row but its name, and whether they are otherwise.
-pub fn keys_of(today: &Link, before: &Link) -> [(&'static str, bool); 6] {
+pub fn keys_of(today: &Link, before: &Link) -> [(&'static str, bool); 7] {
     [
         ("bag_ms", today.bag != before.bag),
         ("jitter_us", today.jitter != before.jitter),
@@ -64,6 +65,7 @@ pub fn keys_of(today: &Link, before: &Link) -> [(&'static str, bool); 6] {
         ("integrity", today.integrity != before.integrity),
         ("redundancy", today.redundancy != before.redundancy),
         ("skew_us", today.skew != before.skew),
+        ("group", group_of(today) != group_of(before)),
     ]
 }
 

@@ -1,5 +1,6 @@
 //! The links as comma-separated values.
 
+use crate::groups::group_of;
 use crate::ranks::{level_at, signs_of, word_of};
 use crate::view::{Shown, View};
 use crate::writer::Page;
@@ -58,7 +59,7 @@ fn push_row(page: &mut Page, view: &View<'_>, index: usize) {
             page.path(&[(",", link.lanes.of(network).signs.of(sign).count)]);
         }
     }
-    page.text("\n");
+    fill!(page; ",$group$\n"; group = Text(group_of(configured).unwrap_or("")));
 }
 
 /// The links of a report, a row each in the order of the table, with a head.
@@ -73,7 +74,7 @@ pub fn csv_of(alloc: Global, shown: &Shown<'_>) -> Result<String, AllocError> {
     for &sign in &COLUMNS {
         fill!(page; ",$word$_a,$word$_b"; word = Text(sign.word()));
     }
-    page.text("\n");
+    page.text(",group\n");
     for index in 0..view.report.links.len() {
         push_row(&mut page, &view, index);
     }

@@ -5,6 +5,7 @@ use crate::compared::{
     REVISIONS, count_of, is_first, is_only_in, is_revised, keys_of, link_in, links_for,
 };
 use crate::cut_command::push_cut;
+use crate::groups::{group_of, shared_group};
 use crate::page::end_word;
 use crate::ranks::{failing, level_at, signs_of, word_of};
 use crate::sentences::push_sentence;
@@ -21,9 +22,6 @@ use ledger_report::{
 use serde_json::Error;
 use std::alloc::Global;
 use vl_config::{Config, Link};
-
-/// The bytes of each frame that a network counts beside a lane's: preamble, start of frame and least gap.
-const BESIDE: u64 = 20;
 
 /// A value without members.
 #[derive(Clone, Copy)]
@@ -173,6 +171,7 @@ impl Json {
             networks = Quoted(finding.side.letters()));
         each!(self; "links", "[", "]"; id in finding.links.iter() =>
             self.value("", Number(u64::from(id.0))));
+        self.given("group", shared_group(view, finding));
         members!(self; from = Stamp(view.stamp(finding.span.from.0)),
             to = Stamp(view.stamp(finding.span.to.0)), count = Number(finding.count));
         self.tally("signs", &finding.signs);
@@ -248,8 +247,9 @@ impl Json {
             return;
         };
         self.open("", "{");
-        members!(self; id = Number(u64::from(link.id.0)), name = Quoted(&configured.name),
-            level = Quoted(word_of(level_at(view.report, index))), signs = Number(signs_of(link)));
+        members!(self; id = Number(u64::from(link.id.0)), name = Quoted(&configured.name));
+        self.given("group", group_of(configured));
+        members!(self; level = Quoted(word_of(level_at(view.report, index))), signs = Number(signs_of(link)));
         self.link_counts(view.report.counted().link(link.id));
         members!(self; link: copies, skew_sum, skew_greatest, skew_median, late_greatest, lost_both);
         self.lane(link, A, view.sizes);
@@ -273,11 +273,9 @@ impl Json {
             report.counted().network(network),
         );
         let some = side.frames > 0;
-        let beside = counts.accepted.saturating_mul(BESIDE);
-        let bytes = side.bytes.saturating_sub(beside);
         self.open(member_of(network), "{");
         members!(self; frames = Number(side.frames), first = Stamped(some.then_some(side.first)),
-            last = Stamped(some.then_some(side.last)), bytes = Known(sizes.then_some(bytes)));
+            last = Stamped(some.then_some(side.last)), bytes = Known(sizes.then_some(side.bytes)));
         self.counts(counts);
         object_if!(self; "ending"; report.endings.of(network) => held; end = Quoted(end_word(held.end)),
             frames = Number(held.frames), reason = Quoted(&held.reason));

@@ -38,6 +38,7 @@ mod compared;
 mod csv;
 mod cut_command;
 mod finding_list;
+mod groups;
 mod json;
 mod numbers;
 mod page;

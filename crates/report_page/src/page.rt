@@ -212,6 +212,17 @@ fn tie_of(manifest: Option<&Manifest>) -> &'static str {
     }
 }
 
+/// The words on how the ledger tells sizes.
+fn sizes_text(view: &View<'_>) -> &'static str {
+    if view.report.has_lengths {
+        text::LENGTHS
+    } else if view.sizes {
+        text::SIZES
+    } else {
+        text::NO_SIZES
+    }
+}
+
 /// The parts of the skeleton.
 fn parts_of<'a>(view: &View<'a>) -> [Named<'a>; 27] {
     let (report, networks, all) = (
@@ -234,7 +245,7 @@ fn parts_of<'a>(view: &View<'a>) -> [Named<'a>; 27] {
         missing = flag(lost.sum() > 0), alone = Both(alone), late = Grouped(view.total(Late).sum()),
         ends = flag(ends), silent_a = silent_on(view, A), silent_b = silent_on(view, B),
         column = Duration(report.width), tie = Text(tie_of(view.manifest)),
-        sizes = Text(if view.sizes { text::SIZES } else { text::NO_SIZES }) }
+        sizes = Text(sizes_text(view)) }
 }
 
 /// How many of the missing numbers are estimates.

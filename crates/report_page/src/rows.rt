@@ -1,7 +1,9 @@
 //! The rows that are drawn by time: the timeline of both networks, and the strips of the worst links.
 
 use crate::charts::Kind::{Greatest, Sum};
-use crate::charts::{Classes, Drawing, Pauses, push_axis, push_events, push_intervals, push_row};
+use crate::charts::{
+    Classes, Drawing, Pauses, push_axis, push_events, push_intervals, push_link_row, push_row,
+};
 use crate::numbers::{quotient, share};
 use crate::ranks::mark_of;
 use crate::view::{
@@ -12,7 +14,7 @@ use crate::writer::{Page, Pair, flag};
 use afdx_frame::Network::{self, A, B};
 use findings::Level;
 use ledger_report::Anomaly::{self, Alone, Excess, Late, Lost, Out, Repeat, Reset, TooLong};
-use ledger_report::LinkReport;
+use ledger_report::{LinkReport, Measure};
 use vl_config::Link;
 
 /// The shapes of what comes, of what is discarded, and of skews.
@@ -73,7 +75,7 @@ fn push_load(page: &mut Page, view: &View<'_>) {
     let drawing = sums(40, FRAMES, 1, 0);
     let peak = push_row(page, view, texts, drawing, (&a.loads, &b.loads));
     let length = view.report.end.saturating_sub(view.report.start).max(1);
-    fill!(page; LOAD; a = megabits(a.bytes, length), b = megabits(b.bytes, length),
+    fill!(page; LOAD; a = megabits(a.wire_bytes, length), b = megabits(b.wire_bytes, length),
         peak = megabits(peak, view.report.width));
 }
 
@@ -141,24 +143,18 @@ fn push_link_frames(page: &mut Page, view: &View<'_>, link: &LinkReport, per: us
     let (a, b) = (&link.lanes.a, &link.lanes.b);
     let title = "frames per column; dashed: one per BAG";
     let limit = quotient(view.long(per), link.bag).max(1);
-    let drawing = sums(48, FRAMES, per, limit).of(link);
+    let drawing = sums(48, FRAMES, per, limit);
     let texts = ("frames", "dashed: one per BAG", title);
-    let peak = push_row(page, view, texts, drawing, (&a.lines, &b.lines));
+    let peak = push_link_row(page, view, texts, drawing, (link, Measure::Lines));
     end_row(page, Pair(a.frames, b.frames), peak);
 }
 
 fn push_link_bytes(page: &mut Page, view: &View<'_>, link: &LinkReport, per: usize) {
-    let series = (&link.lanes.a.loads, &link.lanes.b.loads);
     let title = "bytes per column; dashed: Smax per BAG";
     let limit = share(view.long(per), u64::from(link.smax), link.bag).max(1);
     let texts = ("bytes", "dashed: Smax per BAG", title);
-    let peak = push_row(
-        page,
-        view,
-        texts,
-        sums(36, FRAMES, per, limit).of(link),
-        series,
-    );
+    let drawing = sums(36, FRAMES, per, limit);
+    let peak = push_link_row(page, view, texts, drawing, (link, Measure::Bytes));
     fill!(page; "<small>peak $percent$ %</small></span></div>"; percent = Number(share(peak, 100, limit)));
 }
 
@@ -195,8 +191,8 @@ fn push_link_intervals(
 fn push_link_skews(page: &mut Page, view: &View<'_>, link: &LinkReport, per: usize) {
     let title = "greatest skew of a copy per column";
     let texts = ("skew", "up: A came second<br/>dashed: SkewMax", title);
-    let drawing = skews(44, per, link.skew_max).of(link);
-    push_row(page, view, texts, drawing, (&link.skews.a, &link.skews.b));
+    let drawing = skews(44, per, link.skew_max);
+    push_link_row(page, view, texts, drawing, (link, Measure::Skew));
     fill!(page; "$median$<small>median; most $most$</small></span></div>";
         median = Duration(link.skew_median), most = Duration(greatest_skew(link)));
 }

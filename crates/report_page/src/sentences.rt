@@ -1,5 +1,6 @@
 //! The sentences of findings.
 
+use crate::groups::{links_in, shared_group};
 use crate::page::{given_if, push_ending};
 use crate::view::View;
 use crate::writer::Part::{Duration, Grouped, Number, Tenths, Text};
@@ -18,8 +19,8 @@ const OUTSIDE: usize = 8;
 /// A recording that begins or ends within less than this of the other one isn't late.
 const AT_ONCE: i64 = 100_000_000;
 
-// The templates: what is found stands between `b` and `e`. `@who@` are the links, `@spans@` the times at
-// which it happened, `@outside@` links outside the table, `@ending@` how a recording ends.
+// The templates: what is found stands between `b` and `e`. `@who@` are the links, or their group, `@spans@`
+// the times at which it happened, `@outside@` links outside the table, `@ending@` how a recording ends.
 
 const SILENCE: &str = "\
 $b$$?two$Networks A and B$/$$?one$Network $n$$/$ silent$e$ for $long$, from $from$ to $to$: \
@@ -334,8 +335,25 @@ fn parts_of_links(finding: &Finding) -> [Named<'static>; 14] {
 const NAME: &str = "\
 $?follows$, $/$$?strip$<a href=\"#v$id$\">$name$</a>$/$$?plain$$name$$/$";
 
-/// Appends the names of the first links. `linked`: they lead to their strips.
+/// Appends the links of a finding: by their group where several are of one, and by name unless they are all
+/// of it.
 fn push_who(page: &mut Page, view: &View<'_>, finding: &Finding, linked: bool) {
+    let links = finding.links.len();
+    let Some(group) = shared_group(view, finding).filter(|_| links > 1) else {
+        return push_names(page, view, finding, linked);
+    };
+    let whole = links_in(view, group) == links;
+    fill!(page; "$?whole$all $/$$links$ links of $group$"; whole = flag(whole),
+        links = Number(links as u64), group = Text(group));
+    if !whole {
+        page.text(" (");
+        push_names(page, view, finding, linked);
+        page.text(")");
+    }
+}
+
+/// Appends the names of the first links. `linked`: they lead to their strips.
+fn push_names(page: &mut Page, view: &View<'_>, finding: &Finding, linked: bool) {
     for (at, id) in finding.links.iter().take(NAMED).enumerate() {
         let name = view.name_of(*id).unwrap_or("");
         let strip = linked && view.has_strip_of(*id);

@@ -1,5 +1,6 @@
-//! The ledgers that tell the sizes of frames, by their tables.
+//! The ledgers that tell the sizes of frames, by their version or by their tables.
 
+use ledger_report::Report;
 use vl_config::Config;
 
 /// The least number of bytes to keep that takes every frame whole: the largest capture length of libpcap.
@@ -19,7 +20,8 @@ fn takes_whole(filter: &str) -> bool {
     count == "1" && code == RETURN && kept >= WHOLE
 }
 
-/// Does a filter of the table take every frame whole, so that the bytes kept are those of the frames?
-pub fn has_sizes(config: &Config) -> bool {
-    config.filters().iter().any(|filter| takes_whole(filter))
+/// Does the ledger tell the size of each frame: by its lengths on the wire, or since a filter of the table
+/// takes every frame whole, so that the bytes kept are those of the frames?
+pub fn has_sizes(report: &Report, config: &Config) -> bool {
+    report.has_lengths || config.filters().iter().any(|filter| takes_whole(filter))
 }

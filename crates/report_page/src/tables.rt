@@ -5,6 +5,7 @@ use crate::charts::{Columns, Kind, push_stair};
 use crate::compared::{
     REVISIONS, Revision, count_of, is_first, is_only_in, is_revised, links_for, only_in,
 };
+use crate::groups::{group_of, has_groups};
 use crate::numbers::share;
 use crate::ranks::{LEVELS, Rank, frames_of, level_at, mark_of, word_of};
 use crate::sentences::push_sentence;
@@ -18,7 +19,7 @@ use afdx_frame::Network;
 use findings::{Findings, Level};
 use ledger_report::Anomaly::{self, Alone, Early, Excess, Late, Lost, Out, TooLong};
 use ledger_report::{
-    CHANGES, COUNTS, Change, Count, LinkComparison, LinkNumbers, LinkReport, WORSE, Worse,
+    CHANGES, COUNTS, Change, Count, LinkComparison, LinkNumbers, LinkReport, Measure, WORSE, Worse,
 };
 use vl_config::Config;
 
@@ -36,9 +37,9 @@ const SPARK: &str = "\
 
 /// Appends a link's activity: A over B, and a strip under the columns with signs.
 fn push_spark(page: &mut Page, view: &View<'_>, link: &LinkReport) {
-    let empty = Columns::new(view, Kind::Sum, view.column(link).max(2));
-    let (lines_a, lines_b) = (&link.lanes.a.lines, &link.lanes.b.lines);
-    let (a, b) = (empty.with(lines_a), empty.with(lines_b));
+    let empty = Columns::new(view, Kind::Sum, view.column(link));
+    let a = empty.with_lane(&link.lanes.a, Measure::Lines);
+    let b = empty.with_lane(&link.lanes.b, Measure::Lines);
     let mut marks = empty;
     for &sign in &TROUBLES {
         marks = marks.with(&link.lanes.a.signs.of(sign).bins);
@@ -76,10 +77,10 @@ fn push_judged(page: &mut Page, view: &View<'_>, link: &LinkReport) {
 /// The first cells of a link's row, and those after the drawing of its activity.
 const LINK: &str = "\
 <tr class=\"$level$\"><td><svg class=\"mk $mark$</svg></td><td class=\"r id\">$id$</td><td class=\"nm\">\
-$?strip$<a href=\"#v$id$\">$/$$name$$?strip$</a>$/$</td><td class=\"spk\">";
+$?strip$<a href=\"#v$id$\">$/$$name$$?strip$</a>$/$</td>$?groups$<td>$group$</td>$/$<td class=\"spk\">";
 
 const NUMBERS: &str = "\
-$?none$<i class=\"z\">no frame</i>$/$</td><td class=\"p\">$frames$</td><td class=\"r\">$bag$</td>\
+$?none$<i class=\"z\">no frame</i>$/$</td><td class=\"p fr\">$frames$</td><td class=\"r\">$bag$</td>\
 <td class=\"$early$\">$least$</td><td class=\"r ms\">$most$</td>$?sizes$<td class=\"r u\">$used$</td>$/$";
 
 const JUDGED: &str = "\
@@ -113,7 +114,8 @@ fn push_link(page: &mut Page, view: &View<'_>, rank: &Rank, strip: bool) {
         return;
     };
     fill!(page; LINK; level = Text(word_of(rank.level)), mark = Text(mark_of(rank.level)),
-        strip = flag(strip), id = Number(u64::from(configured.id.0)), name = Text(&configured.name));
+        strip = flag(strip), id = Number(u64::from(configured.id.0)), name = Text(&configured.name),
+        groups = flag(has_groups(view)), group = Text(group_of(configured).unwrap_or("")));
     if frames_of(link) > 0 {
         push_spark(page, view, link);
     }
@@ -125,7 +127,7 @@ fn push_link(page: &mut Page, view: &View<'_>, rank: &Rank, strip: bool) {
 const TITLES: &str = "\
 <p class=\"wide\">Where the window is narrower than the table, the table scrolls: to the right are more \
 columns.</p><div class=\"scroll\" tabindex=\"0\"><table><thead><tr><th></th><th class=\"r\">id</th>\
-<th>link</th>\
+<th>link</th>$?groups$<th>group</th>$/$\
 <th>activity<small>A over B, signs under it</small></th>\
 <th class=\"p\">frames</th><th class=\"r\">BAG<small>ms</small></th>\
 <th class=\"r\">least<small>ms apart</small></th><th class=\"r ms\">most<small>ms apart</small></th>\
@@ -137,7 +139,8 @@ $?toolong$<th class=\"p\">toolong</th>$/$\
 
 /// Appends the table, and a map where it doesn't have all links.
 pub fn push_links(page: &mut Page, view: &View<'_>) {
-    fill!(page; TITLES; sizes = flag(view.sizes), toolong = Both(view.total(TooLong)));
+    fill!(page; TITLES; groups = flag(has_groups(view)), sizes = flag(view.sizes),
+        toolong = Both(view.total(TooLong)));
     for (at, rank) in view.ranks.iter().take(ROWS).enumerate() {
         push_link(page, view, rank, has_strip(rank, at));
     }

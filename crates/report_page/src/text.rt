@@ -123,9 +123,11 @@ The ledger is a part, without lines of counts to compare with: copies whose deli
 /// The page's words on a ledger that is whole.
 pub const WHOLE: &str = "The lines of counts agree with the lines of frames. ";
 
-/// The page's words on a ledger that doesn't tell sizes, and on one that does.
+/// The page's words on a ledger that doesn't tell sizes, and on those that do.
 pub const NO_SIZES: &str = "\
-No filter of the table takes every frame whole, so the ledger doesn't tell sizes: loads are left out. ";
+The ledger doesn't tell sizes, which <code>watch --details</code> writes: loads are left out. ";
+
+pub const LENGTHS: &str = "Sizes are the lengths on the wire that the ledger has. ";
 
 pub const SIZES: &str =
     "Sizes are those kept by a filter of the table that takes every frame whole. ";
@@ -189,8 +191,8 @@ table{border-collapse:collapse;width:100%;font-size:13px}th{font-weight:600;font
 text-align:left;vertical-align:bottom;padding:4px 8px;border-bottom:1.5px solid var(--ink)}
 th small{display:block;font-size:10.5px}td{padding:2px 8px;border-bottom:1px solid var(--line);
 white-space:nowrap}.r{text-align:right}.p{text-align:center}td.p .a,td.p .b{display:inline-block;
-min-width:2.3em;text-align:right}td.p .b{text-align:left}td:nth-child(5) .a,
-td:nth-child(5) .b{min-width:3.2em}td.id,.det .id{color:var(--dim)}.nm{font-weight:600}
+min-width:2.3em;text-align:right}td.p .b{text-align:left}td.fr .a,
+td.fr .b{min-width:3.2em}td.id,.det .id{color:var(--dim)}.nm{font-weight:600}
 .spk{width:210px;min-width:130px}.w{color:var(--alarm);font-weight:700}.ub{width:38px;height:6px;
 margin-right:6px;background:var(--faint)}tr.clean .nm,tr.silent .nm{font-weight:400}
 .scroll{overflow-x:auto;scrollbar-width:thin;background:

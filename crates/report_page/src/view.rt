@@ -79,7 +79,7 @@ pub struct Shown<'a> {
     pub report: &'a Report,
     /// The table that the ledger was judged by.
     pub config: &'a Config,
-    /// Does a filter of the table take every frame whole, so that the bytes kept are those of the frames?
+    /// Does the ledger tell the size of each frame?
     pub sizes: bool,
     /// The manifest of the ledger's run, if it is known.
     pub manifest: Option<&'a Manifest>,
@@ -106,6 +106,9 @@ pub struct Shown<'a> {
     pub transit: Option<&'a str>,
 }
 
+/// So many bins of a network are one of a link.
+const LINK_BIN: usize = 2;
+
 /// How many bins a report uses.
 fn bins_used(report: &Report) -> u64 {
     let length = report.end.saturating_sub(report.start).max(1);
@@ -121,7 +124,7 @@ pub struct View<'a> {
     /// How many bins the page shows, and how long they are together.
     pub used: usize,
     pub span: u64,
-    /// Does a filter of the table take every frame whole, so that the bytes kept are those of the frames?
+    /// Does the ledger tell the size of each frame?
     pub sizes: bool,
     /// The links, worst first.
     pub ranks: Vec<Rank>,
@@ -379,9 +382,10 @@ impl<'a> View<'a> {
         self.report.width.saturating_mul(per as u64)
     }
 
-    /// How many bins make a column of a link's strip: the least power of two that is at least four BAG long.
+    /// How many bins make a column of a link's strip: the least power of two that is at least four BAG long,
+    /// and no less than one of the link's own bins.
     pub fn column(&self, link: &LinkReport) -> usize {
-        let mut column = 1usize;
+        let mut column = LINK_BIN;
         for _ in 0..8 {
             let few = quotient(self.used as u64, column.saturating_mul(2) as u64) < 30;
             if few || self.long(column) >= link.bag.saturating_mul(4) {

@@ -173,7 +173,7 @@ fn taken_by(alloc: Global, document: &Table, table: &Table, key: Key) -> Option<
 fn known_keys(link: Option<u32>) -> &'static str {
     match link {
         Some(_) => {
-            "a link has id, name, bag_ms, jitter_us, smax, integrity, redundancy and skew_us"
+            "a link has id, name, bag_ms, jitter_us, smax, integrity, redundancy, skew_us and group"
         }
         None => "the table has constant, late_us, filters and the links",
     }

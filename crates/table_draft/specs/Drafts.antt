@@ -1,5 +1,6 @@
 -- A draft is read back as the table that it says (this project's profile). Times of a table are in nanoseconds.
 use Rattle.std.specs.Prelude.{◌≡◌, ℕ, ◌*◌, ◌<◌, List, [], length, slice_index_or, string_bytes}
+use Rattle.std.specs.Option.{option_map}
 use Rattle.vl_config.specs.Document.{IsTableOfText, VlTable}
 use Rattle.vl_config.specs.Link.{VirtualLink}
 use Rattle.table_draft.specs.declared.draft.Draft.{Draft}
@@ -19,6 +20,7 @@ pub record HasValues (values : Estimate) (link : VirtualLink) : Type 0 where
 pub record IsLinkOf (drafted : Drafted) (link : VirtualLink) : Type 0 where
   pub id : link.id ≡ drafted.id
   pub name : link.name ≡ string_bytes drafted.name
+  pub group : link.group ≡ option_map string_bytes drafted.group
   pub values : HasValues drafted.values link
 
 abbrev pub AreLinksOf : List Drafted → List VirtualLink → Type 0

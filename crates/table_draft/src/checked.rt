@@ -1,6 +1,7 @@
 //! The check of a draft: the table that its text is read back as is the one that the draft says.
 
-ghost use Rattle.std.specs.Prelude.{◌≡◌, ◌*◌, true};
+ghost use Rattle.std.specs.Prelude.{◌≡◌, ◌*◌, true, string_bytes};
+ghost use Rattle.std.specs.Option.{option_map};
 ghost use Rattle.table_draft.specs.Drafts.{AreLinksOf, HasValues, IsLinkOf, IsTableOf};
 
 use crate::draft::Draft;
@@ -51,7 +52,20 @@ fn is_link_of(link: &Link, drafted: &Drafted) -> bool
     if link.id != drafted.id || link.name.as_str() != drafted.name.as_str() {
         return false;
     }
+    if !is_group_of(&link.group, &drafted.group) {
+        return false;
+    }
     has_values(link, drafted.values)
+}
+
+fn is_group_of(group: &Option<String>, drafted: &Option<String>) -> bool
+    ensures { result ≡ true → option_map string_bytes group.now ≡ option_map string_bytes drafted.now }
+{
+    match (group, drafted) {
+        (Some(group), Some(drafted)) => group.as_str() == drafted.as_str(),
+        (None, None) => true,
+        _ => false,
+    }
 }
 
 fn has_values(link: &Link, values: Estimate) -> bool

@@ -19,6 +19,8 @@ pub struct Known<'a> {
 pub struct Drafted {
     pub id: VlId,
     pub name: String,
+    /// The group that it belongs to, if a document says one.
+    pub group: Option<String>,
     pub values: Estimate,
 }
 
@@ -55,9 +57,17 @@ impl Known<'_> {
             Some(name) => String::from_str(alloc, name.as_str())?,
             None => format!(in alloc; "vl_{}", id.0)?,
         };
+        let group = match self
+            .specified
+            .and_then(|specified| specified.group.as_ref())
+        {
+            Some(group) => Some(String::from_str(alloc, group.as_str())?),
+            None => None,
+        };
         Ok(Drafted {
             id,
             name,
+            group,
             values: self.values(),
         })
     }

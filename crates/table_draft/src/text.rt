@@ -177,7 +177,14 @@ pub fn write_keys(text: &mut String, drafted: &Drafted) -> Result<(), AllocError
         text,
         "smax = {smax}\nintegrity = {integrity}\nredundancy = {redundancy}\n"
     )?;
-    write!(text, "skew_us = {skew_us}\n")
+    write!(text, "skew_us = {skew_us}\n")?;
+    match &drafted.group {
+        Some(group) => {
+            let group = group.as_str();
+            write!(text, "group = \"{group}\"\n")
+        }
+        None => Ok(()),
+    }
 }
 
 /// Writes the arrivals of a link on a network.

@@ -1,8 +1,9 @@
 //! The bytes that a command reads of a recording: of one file its own, of several those of one after another.
-ghost use Rattle.std.specs.Prelude.{IfOk, None, OnErr, OnOk};
+ghost use Rattle.std.specs.Prelude.{◌≡◌, IfOk, None, OnErr, OnOk};
 ghost use Rattle.pcap_io.specs.Device.{CountsFailure, NoFailure};
 ghost use Rattle.pcap_io.specs.declared.told.Told.TheVariants.{Nothing};
-ghost use Rattle.recording_files.specs.Supply.{GivesNext, KeepsFiles};
+ghost use Rattle.recording_files.specs.Supply.{CountsNext, GivesNext, KeepsFiles};
+ghost use Rattle.tap_inputs.specs.Files.{left_of};
 
 use crate::blocks::{LiveInput, SharedBlocks};
 use crate::opening::{open_tap, recording_of};
@@ -56,7 +57,7 @@ pub struct FileList<'p> {
     output: Option<SharedBlocks>,
     /// The first file, until it is its turn.
     first: Option<Input>,
-    /// How many files have had their turn.
+    /// How many files were opened.
     begun: usize,
     /// How often one couldn't be opened.
     failures: u64,
@@ -66,9 +67,10 @@ pub struct FileList<'p> {
 
 impl<'p> FileList<'p> {
     /// The file of this number, if it can be opened.
-    fn open(&mut self, number: usize, file: &TapFile) -> Option<FileSource<'p>> {
+    fn open(&self, number: usize, first: Option<Input>) -> Option<FileSource<'p>> {
         let Reading { rt, .. } = self.reading;
-        let input = match self.first.take() {
+        let file = self.tap.files.get(number)?;
+        let input = match first {
             Some(first) => Ok(first),
             None => Input::open(rt, &file.path),
         };
@@ -87,30 +89,38 @@ impl<'p> FileList<'p> {
         let recording = Recording::new(input, self.reading, (self.tap, number));
         recording_of(rt, ReadSource::new(recording), file.choice).ok()
     }
-}
 
-impl<'p> FileList<'p> {
-    /// The next file, once one was read, if it can be opened.
-    fn next(
-        &mut self,
-        last: Option<ReadFile<FileSource<'p>>>,
-    ) -> Result<Option<FileSource<'p>>, ()> {
+    /// The next file, once one was read, if it can be opened. One that can't stays the next.
+    fn next(&mut self, last: Option<ReadFile<FileSource<'p>>>) -> Result<Option<FileSource<'p>>, ()>
+        ensures count { IfOk result (CountsNext (left_of self.old) (left_of self.new)) }
+        ensures same { OnErr result (left_of self.new ≡ left_of self.old) }
+    {
         if let Some(file) = last {
             self.ended.add_read(file).map_err(|_| ())?;
         }
-        let (tap, number) = (self.tap, self.begun);
-        let Some(file) = tap.files.get(number) else {
+        if self.begun >= self.tap.files.len() {
             return Ok(None);
-        };
-        self.begun = number.saturating_add(1);
-        match self.open(number, file) {
-            Some(file) => Ok(Some(file)),
-            None => Err(()),
         }
+        let first = self.first.take();
+        let Some(file) = self.open(self.begun, first) else {
+            return Err(());
+        };
+        self.begun += 1;
+        Ok(Some(file))
+    }
+
+    /// The number of the file that is read, or else of the one that couldn't be opened, or of the last.
+    fn file(&self, is_read: bool) -> usize {
+        if is_read || self.begun == self.tap.files.len() {
+            return self.begun.saturating_sub(1);
+        }
+        self.begun
     }
 }
 
 impl<'p> FileSupply<FileSource<'p>> for FileList<'p> {
+    ghost left = { λ s. left_of s };
+
     ghost failures = { λ s. s.failures };
 
     fn next_file(
@@ -119,6 +129,8 @@ impl<'p> FileSupply<FileSource<'p>> for FileList<'p> {
     ) -> Result<Option<FileSource<'p>>, DeviceFault>
         ensures next { IfOk result (GivesNext (λ _. None) (λ _. Nothing) None None) }
         ensures kept { OnErr result (KeepsFiles None None) }
+        ensures count { IfOk result (CountsNext (left_of self.old) (left_of self.new)) }
+        ensures same { OnErr result (left_of self.new ≡ left_of self.old) }
         ensures no_failure { OnOk result (NoFailure self.old.failures self.new.failures) }
         ensures fault { OnErr result (CountsFailure self.old.failures self.new.failures) }
     {
@@ -146,7 +158,7 @@ pub type TapFiles<'p> = RecordingFiles<FileList<'p>, FileSource<'p>>;
 pub struct TapEnd {
     /// How many packets that are not of Ethernet were skipped.
     pub skipped: u64,
-    /// The number of the file that was read last.
+    /// The number of the file that was read last, or that couldn't be opened.
     pub file: usize,
     /// The frames of the files that were read to their ends, with all before.
     frames: Vec<u64>,
@@ -234,8 +246,9 @@ pub fn end_of(rt: &HostRuntime, files: TapFiles<'_>) -> TapEnd {
         RecordingFiles::One(file) => (TapEnd::new(rt), Some(file)),
         RecordingFiles::Several(source) => {
             let (files, last) = source.into_parts();
+            let file = files.file(last.is_some());
             let mut ended = files.ended;
-            ended.file = files.begun.saturating_sub(1);
+            ended.file = file;
             (ended, last)
         }
     };

@@ -4,6 +4,7 @@ ghost use Rattle.std.specs.Option.{ForSome};
 ghost use Rattle.afdx_frame.specs.Frame.{IsFrame};
 ghost use Rattle.pcap_io.specs.Reader.{lent_of};
 
+use crate::observer::Observer;
 use crate::progress::Progress;
 use crate::recorded::Recorded;
 use afdx_frame::{LentFrame, Network, Stamp};
@@ -17,9 +18,25 @@ pub(crate) struct LentTap<S> {
     reader: TapReader<S>,
     network: Network,
     progress: Progress,
-    /// When the frame came. None: there is no further one, or none that is wanted.
+    /// The moment of the frame. None: there is no further one, or none that is wanted.
     next: Option<Stamp>,
     ghost stands: { ForSome next (λ stamp. IsFrame (lent_of reader)) },
+}
+
+/// A frame at another moment. None: it is out of bounds.
+#[inline(always)]
+fn at_moment(frame: LentFrame<'_>, moment: Stamp) -> Option<LentFrame<'_>> {
+    if frame.stamp() == moment {
+        return Some(frame);
+    }
+    let bytes = frame.view().bytes();
+    LentFrame::new(
+        frame.network(),
+        frame.number(),
+        moment,
+        frame.whole(),
+        bytes,
+    )
 }
 
 impl<S: TapSource> LentTap<S> {
@@ -33,18 +50,27 @@ impl<S: TapSource> LentTap<S> {
         }
     }
 
-    /// When the frame came that stands to be lent.
+    /// The moment of the frame that stands to be lent.
     #[inline(always)]
     pub(crate) fn next(&self) -> Option<Stamp> {
         self.next
     }
 
-    /// That frame.
+    /// That frame, at its moment.
     #[inline(always)]
     pub(crate) fn frame(&self) -> Option<LentFrame<'_>> {
         match self.next {
-            Some(_) => Some(self.reader.frame()),
+            Some(moment) => at_moment(self.reader.frame(), moment),
             None => None,
+        }
+    }
+
+    /// Tells an observer of the frame that stands to be lent, which has the moment then that it says.
+    #[inline(always)]
+    pub(crate) fn tell<O: Observer>(&mut self, observer: &mut O) {
+        match self.next {
+            Some(stamp) => self.next = Some(observer.hear(self.network, stamp)),
+            None => {}
         }
     }
 

@@ -1,8 +1,8 @@
 //! Both recordings, a frame at a time.
 
 use crate::cut_links::CutLinks;
-use crate::inputs::Inputs;
 use crate::lent_pair::LentPair;
+use crate::lent_tap::LentTap;
 use crate::observer::Observer;
 use crate::pair::{Pair, Unopened};
 use crate::recorded::{Extent, Recorded};
@@ -103,46 +103,60 @@ pub fn show_both<S: TapSource, O: Observer>(
     }
 }
 
-/// Shows the inputs the frames of both recordings, in which no timestamp lies below one before it.
-fn show_lent<S: TapSource>(
+/// Goes on to the next frame of a recording, and tells the observer of it.
+#[inline(always)]
+fn go_on<S: TapSource, O: Observer>(
+    alloc: Global,
+    tap: &mut LentTap<S>,
+    observer: &mut O,
+) -> Result<(), WatchFault> {
+    tap.advance(alloc)?;
+    tap.tell(observer);
+    Ok(())
+}
+
+/// Shows the frames of both recordings, in which no timestamp lies below one before it.
+fn show_lent<S: TapSource, O: Observer>(
     alloc: Global,
     pair: &mut LentPair<S>,
-    inputs: &mut Inputs<'_>,
+    observer: &mut O,
 ) -> Result<(), WatchFault> {
-    pair.a.advance(alloc)?;
-    pair.b.advance(alloc)?;
+    go_on(alloc, &mut pair.a, observer)?;
+    go_on(alloc, &mut pair.b, observer)?;
     for _frame in 0..MAX_ROUNDS {
         let Some(tap) = pair.earlier() else {
             break;
         };
         if let Some(frame) = tap.frame() {
-            inputs.see(alloc, &frame)?;
+            observer.see(alloc, &frame)?;
         }
-        tap.advance(alloc)?;
+        go_on(alloc, tap, observer)?;
     }
     Ok(())
 }
 
-/// Reads both recordings once, as far as it is told, and counts their frames. Both sources come back.
+/// Reads both recordings once, as far as it is told, and shows their frames to the observer. Both sources come
+/// back.
 ///
-/// Where timestamps may lie below the greatest one before them, the frames of so much time wait in memory.
+/// Where timestamps may lie below the greatest one before them, what is kept of the frames of so much time waits
+/// in memory.
 ///
 /// # Errors
 ///
-/// `Header` or `Read` if a recording can't be opened, `Read` or `Memory` later.
-pub fn show_recordings<S: TapSource>(
+/// `Header` or `Read` if a recording can't be opened, `Read`, `Memory` or the observer's own later.
+pub fn show_recordings<S: TapSource, O: Observer>(
     alloc: Global,
     extent: Extent,
     a: S,
     b: S,
-    inputs: &mut Inputs<'_>,
+    observer: &mut O,
 ) -> Pass<S> {
     if extent.late > 0 {
-        return show_both(alloc, extent, a, b, inputs);
+        return show_both(alloc, extent, a, b, observer);
     }
     match LentPair::open(extent, a, b) {
         Ok(mut pair) => {
-            let shown = show_lent(alloc, &mut pair, inputs);
+            let shown = show_lent(alloc, &mut pair, observer);
             pair.finish(extent, shown)
         }
         Err(Unopened { fault, a, b }) => Pass {

@@ -11,12 +11,13 @@ const CHECKED: u64 = 64;
 /// How many frames of a recording are kept by their bytes' hash.
 const SAMPLED: usize = 65536;
 
-/// The first value of FNV-1a of 64 bits, and its prime.
+/// The first value of FNV-1a of 64 bits.
 const OFFSET_BASIS: u64 = 0xcbf2_9ce4_8422_2325;
 
-const PRIME: u64 = 0x0100_0000_01b3;
+/// An odd number by which words are mixed.
+const MIXER: u64 = 0x9e37_79b9_7f4a_7c15;
 
-/// The hash of a frame's bytes (FNV-1a), and its moment in nanoseconds.
+/// The hash of a frame's bytes, and its moment in nanoseconds.
 pub(crate) type Sample = (u64, u64);
 
 /// The look at one recording.
@@ -36,12 +37,25 @@ pub struct Looks {
     pub(crate) after: Look,
 }
 
-/// The hash of some bytes.
+/// The word that eight bytes hold, or fewer at a frame's end.
+fn word_of(bytes: &[u8]) -> u64 {
+    match bytes {
+        [a, b, c, d, e, f, g, h] => u64::from_le_bytes([*a, *b, *c, *d, *e, *f, *g, *h]),
+        _ => bytes.iter().fold(
+            0,
+            |word: u64, byte| word.wrapping_mul(256) | u64::from(*byte),
+        ),
+    }
+}
+
+/// The hash of some bytes, of eight at a time.
 fn hash_of(bytes: &[u8]) -> u64 {
-    bytes.iter().fold(
-        OFFSET_BASIS,
-        |hash, byte| (hash ^ u64::from(*byte)).wrapping_mul(PRIME),
-    )
+    let mut hash = OFFSET_BASIS;
+    for chunk in bytes.chunks(8) {
+        let mixed = (hash ^ word_of(chunk)).wrapping_mul(MIXER);
+        hash = mixed ^ mixed.wrapping_shr(32);
+    }
+    hash
 }
 
 impl Look {

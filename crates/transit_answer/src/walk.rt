@@ -6,7 +6,7 @@ use pcap_io::{DeviceFault, Ending, OutSink, TapSource, write_all};
 use run_fault::{MAX_FRAMES, Output, WatchFault};
 use std::alloc::{AllocError, Global};
 use std::fmt::Write;
-use traffic_survey::{Extent, Observer, Recorded, show_both};
+use traffic_survey::{Extent, Observer, Recorded, show_recordings};
 use transit_run::{Options, Pass};
 use vl_config::Config;
 
@@ -70,7 +70,7 @@ impl<W: OutSink> Walk<'_, W> {
     fn begin(&mut self) -> Result<(), WatchFault> {
         let head = self.head.take();
         if let (Some(ledger), Some(head)) = (&mut self.ledger, &head) {
-            put(ledger, head)?;
+            put(ledger, head.as_bytes())?;
         }
         Ok(())
     }
@@ -79,7 +79,7 @@ impl<W: OutSink> Walk<'_, W> {
     fn write(&mut self, text: &str) -> Result<(), WatchFault> {
         self.hand_over(1)?;
         if let Some(ledger) = &mut self.ledger {
-            put(ledger, text)?;
+            put(ledger, text.as_bytes())?;
         }
         Ok(())
     }
@@ -117,8 +117,8 @@ impl<W: OutSink> Walk<'_, W> {
 }
 
 /// Writes a text to the ledger.
-fn put<W: OutSink>(ledger: &mut W, text: &str) -> Result<(), WatchFault> {
-    match write_all(ledger, text.as_bytes()) {
+fn put<W: OutSink>(ledger: &mut W, text: &[u8]) -> Result<(), WatchFault> {
+    match write_all(ledger, text) {
         Ok(()) => Ok(()),
         Err(DeviceFault) => Err(WatchFault::Write {
             output: Output::Ledger,
@@ -137,11 +137,17 @@ fn push_tap(text: &mut String, side: &str, ending: Ending) -> Result<(), AllocEr
     text.push_str("\n")
 }
 
-/// A frame that came out, merged later by what clocks may be off.
-fn moved(frame: TapFrame, shift: i64, early: u64) -> Result<TapFrame, AllocError> {
-    let (network, number, stamp, whole, bytes) = frame.into_parts();
+/// When a frame that came out is merged: later by what clocks may be off.
+#[inline(always)]
+fn moved(stamp: Stamp, shift: i64, early: u64) -> Stamp {
     let moment = stamp.0.saturating_add_signed(shift).saturating_add(early);
-    match TapFrame::sharing(network, number, Stamp(moment.min(LAST)), whole, bytes) {
+    Stamp(moment.min(LAST))
+}
+
+/// A frame at another moment.
+fn at_moment(frame: TapFrame, moment: Stamp) -> Result<TapFrame, AllocError> {
+    let (network, number, _, whole, bytes) = frame.into_parts();
+    match TapFrame::sharing(network, number, moment, whole, bytes) {
         Some(frame) => Ok(frame),
         // Its parts were within their bounds before, and its moment is.
         None => Err(AllocError),
@@ -150,14 +156,24 @@ fn moved(frame: TapFrame, shift: i64, early: u64) -> Result<TapFrame, AllocError
 
 impl<W: OutSink> Observer for Walk<'_, W> {
     fn keep(&mut self, _alloc: Global, frame: TapFrame) -> Result<TapFrame, AllocError> {
-        let kept = match frame.network() {
-            Network::A => frame,
-            Network::B => moved(frame, self.shift, self.early)?,
-        };
-        self.pass.read(kept.network(), kept.stamp().0);
-        Ok(kept)
+        let moment = self.hear(frame.network(), frame.stamp());
+        match frame.network() {
+            Network::A => Ok(frame),
+            Network::B => at_moment(frame, moment),
+        }
     }
 
+    #[inline]
+    fn hear(&mut self, network: Network, stamp: Stamp) -> Stamp {
+        let moment = match network {
+            Network::A => stamp,
+            Network::B => moved(stamp, self.shift, self.early),
+        };
+        self.pass.read(network, moment.0);
+        moment
+    }
+
+    #[inline]
     fn see(&mut self, _alloc: Global, frame: &LentFrame<'_>) -> Result<(), WatchFault> {
         self.looks.see(frame)?;
         self.pass.see(frame)?;
@@ -247,7 +263,7 @@ pub fn walk_both<'t, S: TapSource, W: OutSink>(
         frames: MAX_FRAMES,
         late,
     };
-    let shown = show_both(alloc, extent, before, after, &mut walk);
+    let shown = show_recordings(alloc, extent, before, after, &mut walk);
     let ended = walk.finish(alloc, shown.outcome);
     into_run(walk, ended, (shown.a, shown.b))
 }

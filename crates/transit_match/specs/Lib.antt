@@ -1,3 +1,4 @@
+pub mod Forgetting
 pub mod Laws
 pub mod Pairing
 pub mod Waiting

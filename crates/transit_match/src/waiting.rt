@@ -1,9 +1,11 @@
 //! The frames that went in and may still come out.
 
-ghost use Rattle.std.specs.Prelude.{◌≡◌, ℕ, ◌<◌, ◌≤◌, List, [], ◌∷◌, ◌++◌, OnOk, OnErr, length, position};
+ghost use Rattle.std.specs.Prelude.{◌≡◌, ℕ, ◌<◌, ◌≤◌, List, [], ◌∷◌, ◌++◌, OnOk, OnErr, drop, length, position};
 ghost use Rattle.std.specs.List.{list_any};
 ghost use Rattle.std.specs.Option.{option_map};
+ghost use Rattle.std.specs.VecDeque.{deque_capacity, deque_len};
 ghost use Rattle.transit_match.specs.Pairing.{Row, Arrival, is_within};
+ghost use Rattle.transit_match.specs.Forgetting.{first_key, key_over, without_over};
 ghost use Rattle.transit_match.specs.Waiting.{IsAfter, Stands, entered, entry_of, first_free, fits, may_take, paired, starts_over};
 
 use std::alloc::{AllocError, Global};
@@ -45,6 +47,8 @@ impl<K: PartialEq + Drop> Waiting<K> {
             Stands K.eq self.old floor rows arrivals → IsAfter moment arrivals →
             Stands K.eq self.new floor (rows ++ entered moment place key ∷ []) arrivals) }
         ensures unchanged { OnErr result (self.new.queue.items ≡ self.old.queue.items) }
+        // It asks for memory only where the queue is full.
+        ensures memory { OnErr result (deque_capacity self.old.queue ≤ deque_len self.old.queue) }
         ensures window { self.new.window ≡ self.old.window }
     {
         self.queue.push_back(Entry {
@@ -127,16 +131,33 @@ impl<K: PartialEq + Drop> Waiting<K> {
             && entry.key == *key)
     }
 
-    /// Forgets the first frame, where its window ended before this moment. No frame comes out at an
-    /// earlier one from now on.
-    pub fn forget_first(&mut self, moment: u64)
+    /// Forgets the first frame, where its window ended before this moment, and gives its key back. No frame
+    /// comes out at an earlier one from now on.
+    pub fn forget_first(&mut self, moment: u64) -> Option<K>
         ensures after { (floor : ℕ) (rows : List (Row K)) (arrivals : List (Arrival K)) →
             Stands K.eq self.old floor rows arrivals → floor ≤ moment →
             Stands K.eq self.new moment rows arrivals }
+        ensures rest { self.new.queue.items
+            ≡ without_over self.old.window moment self.old.queue.items }
+        ensures key { result ≡ key_over self.old.window moment self.old.queue.items }
         ensures window { self.new.window ≡ self.old.window }
     {
         if self.starts_over(moment) {
-            drop(self.queue.pop_front());
+            self.pop()
+        } else {
+            None
+        }
+    }
+
+    /// Takes out the first frame: its key.
+    fn pop(&mut self) -> Option<K>
+        ensures rest { self.new.queue.items ≡ drop 1 self.old.queue.items }
+        ensures key { result ≡ first_key self.old.queue.items }
+        ensures window { self.new.window ≡ self.old.window }
+    {
+        match self.queue.pop_front() {
+            Some(Entry { key, .. }) => Some(key),
+            None => None,
         }
     }
 

@@ -1,4 +1,5 @@
 pub mod Growing
+pub mod Keeping
 pub mod Passing
 pub mod Placed
 pub mod Tallies

@@ -1,5 +1,5 @@
 -- The lines that calls add to a ledger of transits.
-use Rattle.std.specs.Prelude.{◌≡◌, ℕ, List, [], ◌++◌, string_bytes}
+use Rattle.std.specs.Prelude.{◌≡◌, ℕ, List, [], ◌++◌}
 use Rattle.transit_run.specs.Counts.{IsCountOf}
 use Rattle.transit_run.specs.Line.{lines_text}
 use Rattle.transit_run.specs.declared.line.Line.{Line}
@@ -7,12 +7,12 @@ use Rattle.transit_run.specs.declared.ledger.Ledger.{Ledger}
 
 -- No line was written.
 pub record IsEmpty (ledger : Ledger) : Type 0 where
-  pub text : string_bytes ledger.text ≡ []
+  pub text : ledger.text.items ≡ []
   pub counts : IsCountOf ledger.counts []
 
 -- These lines were written, whole and in order, after the text, and counted.
 pub record Adds (old new : Ledger) (more : List Line) : Type 0 where
-  pub text : string_bytes new.text ≡ string_bytes old.text ++ lines_text more
+  pub text : new.text.items ≡ old.text.items ++ lines_text more
   pub counts : (lines : List Line) → IsCountOf old.counts lines → IsCountOf new.counts (lines ++ more)
 
 -- Some lines were.

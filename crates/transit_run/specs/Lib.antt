@@ -3,3 +3,4 @@ pub mod Held
 pub mod Ledger
 pub mod Line
 pub mod Outcome
+pub mod Told

@@ -1,5 +1,8 @@
 //! The facts of each link, listed in the table or not.
 
+ghost use Rattle.std.specs.Prelude.{◌≡◌};
+ghost use Rattle.transit_run.specs.Told.{covers};
+
 use crate::order::Order;
 
 /// When frames of a link first went in and came out, in nanoseconds, and whether they kept their order.
@@ -59,7 +62,9 @@ impl Span {
 }
 
 /// True if a recording covers the time from so much before a moment to so much after it.
-pub(crate) fn covers(span: Option<Span>, moment: u64, before: u64, after: u64) -> bool {
+pub(crate) fn covers(span: Option<Span>, moment: u64, before: u64, after: u64) -> bool
+    ensures { result ≡ covers span moment before after }
+{
     match span {
         Some(span) => {
             span.first.saturating_add(before) <= moment && moment.saturating_add(after) <= span.last

@@ -50,13 +50,14 @@ impl Floor {
         let start = self.start.unwrap_or(moment);
         self.start = Some(start);
         let since = moment.saturating_sub(start);
+        let mut place = (since / self.width.max(1)) as usize;
         for _ in 0..64 {
-            if since / self.width.max(1) < PARTS as u64 {
+            if place < PARTS {
                 break;
             }
             self.halve()?;
+            place = (since / self.width.max(1)) as usize;
         }
-        let place = (since / self.width.max(1)) as usize;
         for _ in self.parts.len()..=place.min(PARTS) {
             self.parts.push(None)?;
         }

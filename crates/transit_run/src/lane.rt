@@ -28,6 +28,8 @@ pub struct LinkTransits<'a> {
 pub(crate) struct Lane {
     /// By their bytes.
     pub(crate) alike: Waiting<Vec<u8>>,
+    /// How many of those have no partner.
+    pub(crate) free: u64,
     /// By their links and sequence numbers, those that have no partner with their bytes.
     pub(crate) placed: Waiting<u32>,
     pub(crate) policer: Option<Policer>,
@@ -45,6 +47,7 @@ impl Lane {
     pub(crate) fn new(alloc: Global, link: Option<&Link>, options: &Options) -> Lane {
         Lane {
             alike: Waiting::new(alloc, options.window()),
+            free: 0,
             placed: Waiting::new(alloc, options.window()),
             policer: link.map(Policer::new),
             facts: LinkFacts::new(),
@@ -53,6 +56,21 @@ impl Lane {
             most_in_a_row: 0,
             first_fault: None,
         }
+    }
+
+    /// The place of the frame that comes out with these bytes. None: it is alike to none without a partner.
+    pub(crate) fn take(&mut self, bytes: &Vec<u8>, moment: u64) -> Option<u64> {
+        if self.free == 0 {
+            return None;
+        }
+        let place = self.alike.take(bytes, moment)?;
+        self.free = self.free.saturating_sub(1);
+        Some(place)
+    }
+
+    /// True if a frame that comes out with these bytes may be one without a partner.
+    pub(crate) fn has(&self, bytes: &Vec<u8>, moment: u64) -> bool {
+        self.free > 0 && self.alike.has(bytes, moment)
     }
 
     /// A frame that went in has this fate, and came out or didn't.

@@ -1,7 +1,6 @@
 //! How long frames took.
 
 use std::alloc::{AllocError, Global};
-use std::collections::BTreeMap;
 
 /// The transits of frames, in nanoseconds. A transit below 0 is that of clocks which are apart.
 #[derive(Drop)]
@@ -16,8 +15,8 @@ pub struct Latency {
     pub over: u64,
     /// How many were below 0.
     pub negative: u64,
-    /// How many there are of each length, rounded.
-    bins: BTreeMap<i64, u64>,
+    /// The lengths, rounded, from the shortest on, and how many there are of each.
+    bins: Vec<(i64, u64)>,
 }
 
 impl Latency {
@@ -29,7 +28,7 @@ impl Latency {
             range: None,
             over: 0,
             negative: 0,
-            bins: BTreeMap::new(alloc),
+            bins: Vec::new(alloc),
         }
     }
 
@@ -55,12 +54,32 @@ impl Latency {
     }
 
     fn count_bin(&mut self, bin: i64) -> Result<(), AllocError> {
-        if let Some(count) = self.bins.get_mut(&bin) {
-            *count = count.saturating_add(1);
-            return Ok(());
+        let place = self.place_of(bin);
+        if let Some(held) = self.bins.get_mut(place) {
+            if held.0 == bin {
+                held.1 = held.1.saturating_add(1);
+                return Ok(());
+            }
         }
-        self.bins.insert(bin, 1)?;
+        self.bins.insert(place.min(self.bins.len()), (bin, 1))?;
         Ok(())
+    }
+
+    /// The place of a rounded length, or where it is put. The lengths mostly follow each other without a gap,
+    /// so that the first one tells it.
+    fn place_of(&self, bin: i64) -> usize {
+        let first = match self.bins.first() {
+            Some((first, _)) => *first,
+            None => return 0,
+        };
+        let steps = step_of(bin).saturating_sub(step_of(first));
+        let place = usize::try_from(steps).unwrap_or(0);
+        match self.bins.get(place) {
+            Some((held, _)) if *held == bin => place,
+            _ => match self.bins.binary_search_by(|held| held.0.cmp(&bin)) {
+                Ok(place) | Err(place) => place,
+            },
+        }
     }
 
     /// Their mean, rounded down. None: there is none.
@@ -72,8 +91,8 @@ impl Latency {
         i64::try_from(mean).ok()
     }
 
-    /// How many transits there are of each length, rounded, from the shortest on.
-    pub fn bins(&self) -> &BTreeMap<i64, u64> {
+    /// The lengths of transits, rounded, from the shortest on, and how many there are of each.
+    pub fn bins(&self) -> &[(i64, u64)] {
         &self.bins
     }
 
@@ -91,14 +110,32 @@ impl Latency {
     }
 }
 
+/// How many binary digits of a size are rounded away, so that eight are left.
+fn digits_off(size: u64) -> u32 {
+    56_u32.saturating_sub(size.leading_zeros())
+}
+
 /// Towards zero, to eight leading binary digits: less than 0.8 % off.
 fn rounded(transit: i64) -> i64 {
     let size = transit.unsigned_abs();
-    let low = 56_u32.saturating_sub(size.leading_zeros());
+    let low = digits_off(size);
     let size = i64::try_from(size.wrapping_shr(low).wrapping_shl(low)).unwrap_or(i64::MAX);
     if transit < 0 {
         0_i64.saturating_sub(size)
     } else {
         size
+    }
+}
+
+/// How many rounded lengths there are from 0 to this one.
+fn step_of(bin: i64) -> i64 {
+    let size = bin.unsigned_abs();
+    let low = digits_off(size);
+    let digits = i64::try_from(size.wrapping_shr(low)).unwrap_or(0);
+    let steps = i64::from(low).saturating_mul(128).saturating_add(digits);
+    if bin < 0 {
+        0_i64.saturating_sub(steps)
+    } else {
+        steps
     }
 }

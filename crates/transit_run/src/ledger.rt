@@ -1,12 +1,12 @@
 //! The text of a ledger of transits, and the counts of its lines.
 
-ghost use Rattle.std.specs.Prelude.{◌≡◌, ◌++◌, List, [], ◌∷◌, IfOk, OnOk, OnErr, string_bytes};
+ghost use Rattle.std.specs.Prelude.{◌≡◌, ◌++◌, List, [], ◌∷◌, IfOk, OnOk, OnErr};
 ghost use Rattle.transit_run.specs.Ledger.{Adds, GoesOn, IsEmpty};
 
 use crate::counts::Counts;
 use crate::lane::Lane;
 use crate::latency::Latency;
-use crate::line::{Line, write_line};
+use crate::line::{Line, push_line};
 use crate::summary::{write_links, write_total};
 use afdx_frame::VlId;
 use std::alloc::{AllocError, Global};
@@ -16,8 +16,8 @@ use vl_config::Config;
 #[derive(Drop)]
 pub(crate) struct Ledger {
     /// Whole lines, as far as they weren't taken.
-    text: String,
-    /// The line that is made, before it is added to the text.
+    text: Vec<u8>,
+    /// The lines that are made of counts, before they are added to the text.
     line: String,
     pub(crate) counts: Counts,
 }
@@ -32,7 +32,7 @@ impl Ledger {
         ensures { IfOk result IsEmpty }
     {
         Ok(Ledger {
-            text: String::new(alloc),
+            text: Vec::new(alloc),
             line: String::new(alloc),
             counts: Counts::new(alloc)?,
         })
@@ -58,10 +58,8 @@ impl Ledger {
         ensures ok { OnOk result (Adds self.old self.new (line.now ∷ [])) }
         ensures err { OnErr result (Adds self.old self.new []) }
     {
-        self.line.clear();
-        write_line(&mut self.line, line)?;
         let place = self.counts.add(line.link())?;
-        self.text.push_str(&self.line)?;
+        push_line(&mut self.text, line)?;
         self.counts.count(place, line);
         Ok(())
     }
@@ -85,14 +83,14 @@ impl Ledger {
         all: &Latency,
     ) -> Result<(), AllocError>
         ensures counts { self.new.counts ≡ self.old.counts }
-        ensures ok { OnOk result (GoesOn (string_bytes self.old.text) (string_bytes self.new.text)) }
-        ensures err { OnErr result (string_bytes self.new.text ≡ string_bytes self.old.text) }
+        ensures ok { OnOk result (GoesOn self.old.text.items self.new.text.items) }
+        ensures err { OnErr result (self.new.text.items ≡ self.old.text.items) }
     {
         self.line.clear();
         let counts = self.counts.links().get(1..).unwrap_or(&[]);
         let lanes = lanes.get(1..).unwrap_or(&[]);
         write_links(&mut self.line, table.links(), counts, lanes, all)?;
-        self.text.push_str(&self.line)?;
+        self.text.extend_from_slice(self.line.as_bytes())?;
         Ok(())
     }
 
@@ -103,25 +101,25 @@ impl Ledger {
     /// `AllocError` if there is no memory for the line: it isn't written.
     pub(crate) fn write_total(&mut self) -> Result<(), AllocError>
         ensures counts { self.new.counts ≡ self.old.counts }
-        ensures ok { OnOk result (GoesOn (string_bytes self.old.text) (string_bytes self.new.text)) }
-        ensures err { OnErr result (string_bytes self.new.text ≡ string_bytes self.old.text) }
+        ensures ok { OnOk result (GoesOn self.old.text.items self.new.text.items) }
+        ensures err { OnErr result (self.new.text.items ≡ self.old.text.items) }
     {
         self.line.clear();
         write_total(&mut self.line, &self.counts.all)?;
-        self.text.push_str(&self.line)?;
+        self.text.extend_from_slice(self.line.as_bytes())?;
         Ok(())
     }
 
     /// The lines that weren't taken.
-    pub(crate) fn text(&self) -> &str
-        ensures { result.now ≡ string_bytes self.now.text }
+    pub(crate) fn text(&self) -> &[u8]
+        ensures { result.now ≡ self.now.text.items }
     {
-        self.text.as_str()
+        self.text.as_slice()
     }
 
     /// The lines were taken.
     pub(crate) fn clear_text(&mut self)
-        ensures text { string_bytes self.new.text ≡ [] }
+        ensures text { self.new.text.items ≡ [] }
         ensures counts { self.new.counts ≡ self.old.counts }
     {
         self.text.clear();

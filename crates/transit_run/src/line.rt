@@ -1,15 +1,21 @@
 //! The lines of a ledger of transits.
 
-ghost use Rattle.std.specs.Prelude.{◌≡◌, ◌++◌, OnOk, string_bytes};
+ghost use Rattle.std.specs.Prelude.{◌≡◌, ◌+◌, ◌≤◌, ◌++◌, OnErr, OnOk, codes, decimal, drop, length};
 ghost use Rattle.transit_run.specs.Counts.{head_of};
-ghost use Rattle.transit_run.specs.Line.{after_text, before_text, difference, head_text, line_text, link_of, partner_number, policing_text};
+ghost use Rattle.transit_run.specs.Line.{difference, line_text, link_number, link_of, number_text, partner_number, policing_text, sequence_of, transit_text};
+ghost use Rattle.transit_run.specs.Outcome.{fate_word};
+ghost use Rattle.transit_run.specs.declared.line.Line.TheVariants.{Before, After};
+ghost use Rattle.transit_run.specs.declared.line.TheConstants.{FIELD, HEAD, MAX_LINE, NUMBER, REST, SIDE, WORD};
+ghost use Rattle.vl_config.specs.Class.{class_word};
 
 use crate::outcome::{Fate, Origin};
 use crate::rows::{Head, Partner};
 use afdx_frame::VlId;
+use itoa::{Buffer, write_digits};
 use std::alloc::AllocError;
 use std::fmt;
 use transit_policing::Policed;
+use vl_config::Class;
 
 /// The line of a frame.
 #[derive(Clone, Copy)]
@@ -54,24 +60,6 @@ impl Line {
     }
 }
 
-/// A number, or a dash.
-#[derive(Clone, Copy)]
-pub(crate) struct NumberOrDash(pub(crate) Option<u64>);
-
-impl fmt::Display for NumberOrDash {
-    ghost use Rattle.std.specs.Prelude.{Some};
-    ghost use Rattle.transit_run.specs.Line.{number_text};
-
-    ghost output = { λ number. Some (number_text number.0) };
-
-    fn fmt<W: fmt::Write>(&self, f: &mut fmt::Formatter<W>) -> fmt::Result {
-        match self.0 {
-            Some(number) => write!(f, "{number}"),
-            None => f.write_str("-"),
-        }
-    }
-}
-
 /// A transit, or a dash.
 #[derive(Clone, Copy)]
 pub(crate) struct TransitOrDash(pub(crate) Option<i64>);
@@ -90,9 +78,124 @@ impl fmt::Display for TransitOrDash {
     }
 }
 
+/// The most bytes of a number, and with the space before it.
+const NUMBER: usize = 20;
+
+const FIELD: usize = NUMBER + 1;
+
+/// The most bytes of the word of a class, of policing or of an outcome, with the space before it.
+const WORD: usize = 13;
+
+/// The most bytes of the side, with the space before it.
+const SIDE: usize = 7;
+
+/// The most bytes of a line up to its class, and of what follows, with the newline.
+const HEAD: usize = NUMBER + SIDE + 3 * FIELD + WORD;
+
+const REST: usize = 2 * WORD + 3 * FIELD + 1;
+
+/// Room for a line.
+const MAX_LINE: usize = HEAD + REST;
+
+// A line is written from its end to its start, since a division gives a number's last digit first. Each
+// function below writes its text so that it ends at `end`, and returns where it starts.
+
+/// Writes bytes.
+#[inline(always)]
+fn write_bytes(bytes: &[u8], line: &mut [u8], end: usize) -> usize
+    requires room { length bytes.now ≤ end }
+    requires within { end ≤ length line.old }
+    ensures start { result + length bytes.now ≡ end }
+    ensures written { drop result line.new ≡ bytes.now ++ drop end line.old }
+{
+    let start = end - bytes.len();
+    line[start..end].copy_from_slice(bytes);
+    start
+}
+
+/// Writes a space and a word.
+#[inline(always)]
+fn write_word(word: &str, line: &mut [u8], end: usize) -> usize
+    requires room { length word.now + 1 ≤ end }
+    requires within { end ≤ length line.old }
+    ensures start { result + (length word.now + 1) ≡ end }
+    ensures written { drop result line.new ≡ codes " " ++ (word.now ++ drop end line.old) }
+{
+    let start = write_bytes(word.as_bytes(), line, end);
+    write_bytes(b" ", line, start)
+}
+
+/// Writes a number.
+#[inline(always)]
+#[tactic(auto, using(crate::proofs::Written::number_short))]
+fn write_number(number: u64, line: &mut [u8], end: usize) -> usize
+    requires room { NUMBER ≤ end }
+    requires within { end ≤ length line.old }
+    ensures order { result ≤ end }
+    ensures near { end ≤ result + NUMBER }
+    ensures written { drop result line.new ≡ decimal number ++ drop end line.old }
+{
+    write_digits(number, line, end)
+}
+
+/// Writes a space, and a number or a dash.
+#[inline(always)]
+fn write_field(number: Option<u64>, line: &mut [u8], end: usize) -> usize
+    requires room { FIELD ≤ end }
+    requires within { end ≤ length line.old }
+    ensures order { result ≤ end }
+    ensures near { end ≤ result + FIELD }
+    ensures written { drop result line.new ≡ codes " " ++ (number_text number ++ drop end line.old) }
+{
+    match number {
+        Some(number) => {
+            let start = write_number(number, line, end);
+            write_bytes(b" ", line, start)
+        }
+        None => write_bytes(b" -", line, end),
+    }
+}
+
+/// Writes a space, and a transit or a dash.
+#[inline(always)]
+fn write_transit(transit: Option<i64>, line: &mut [u8], end: usize) -> usize
+    requires room { FIELD ≤ end }
+    requires within { end ≤ length line.old }
+    ensures order { result ≤ end }
+    ensures near { end ≤ result + FIELD }
+    ensures written { drop result line.new ≡ codes " " ++ (transit_text transit ++ drop end line.old) }
+{
+    match transit {
+        Some(transit) => {
+            let mut digits = Buffer::new();
+            write_word(digits.format(transit), line, end)
+        }
+        None => write_bytes(b" -", line, end),
+    }
+}
+
+/// The word of a frame's class.
+#[inline(always)]
+fn class_text(class: Class) -> &'static str
+    ensures word { result.now ≡ class_word class }
+    ensures short { length result.now + 1 ≤ WORD }
+{
+    match class {
+        Class::Cut => "cut",
+        Class::Runt => "runt",
+        Class::Oversize => "oversize",
+        Class::Foreign => "foreign",
+        Class::Unconfigured => "unconfigured",
+        Class::TooLong => "toolong",
+        Class::Regular => "regular",
+    }
+}
+
 /// The word of a frame's policing, or a dash.
+#[inline(always)]
 fn policing_word(policed: Option<Policed>) -> &'static str
-    ensures { result.now ≡ policing_text policed }
+    ensures word { result.now ≡ policing_text policed }
+    ensures short { length result.now + 1 ≤ WORD }
 {
     match policed {
         Some(Policed::Within) => "within",
@@ -102,67 +205,121 @@ fn policing_word(policed: Option<Policed>) -> &'static str
     }
 }
 
-fn write_head(text: &mut String, head: &Head, moment: u64, side: &str) -> Result<(), AllocError>
-    ensures { OnOk result
-        (string_bytes text.new ≡ string_bytes text.old ++ head_text head.now moment side.now) }
-{
-    let number = head.number;
-    let (link, sequence) = (head.link_number(), head.sequence());
-    let class = head.class.word();
-    write!(text, "{moment} {side} {number} {link} {sequence} {class}")
-}
-
-fn write_before(text: &mut String, line: &BeforeLine) -> Result<(), AllocError>
-    ensures { OnOk result (string_bytes text.new ≡ string_bytes text.old ++ before_text line.now) }
-{
-    let policing = policing_word(line.policed);
-    let fate = line.fate.word();
-    let number = partner_number(line.partner);
-    let transit = TransitOrDash(line.transit);
-    let differs = difference(line.partner);
-    writeln!(text, " {policing} {fate} {number} {transit} {differs}")
-}
-
-fn write_after(text: &mut String, line: &AfterLine) -> Result<(), AllocError>
-    ensures { OnOk result (string_bytes text.new ≡ string_bytes text.old ++ after_text line.now) }
-{
-    let origin = line.origin.word();
-    writeln!(text, " - {origin} - - -")
-}
-
-fn partner_number(partner: Option<Partner>) -> NumberOrDash
-    ensures { result.0 ≡ partner_number partner }
+#[inline]
+fn partner_number(partner: Option<Partner>) -> Option<u64>
+    ensures { result ≡ partner_number partner }
 {
     match partner {
-        Some(partner) => NumberOrDash(Some(partner.number)),
-        None => NumberOrDash(None),
+        Some(partner) => Some(partner.number),
+        None => None,
     }
 }
 
-fn difference(partner: Option<Partner>) -> NumberOrDash
-    ensures { result.0 ≡ difference partner }
+#[inline]
+fn difference(partner: Option<Partner>) -> Option<u64>
+    ensures { result ≡ difference partner }
 {
     match partner {
         Some(partner) => match partner.differs {
-            Some(place) => NumberOrDash(Some(place as u64)),
-            None => NumberOrDash(None),
+            Some(place) => Some(place as u64),
+            None => None,
         },
-        None => NumberOrDash(None),
+        None => None,
     }
 }
 
-/// Appends a line. After an error a part of it may stand at the text's end.
-pub(crate) fn write_line(text: &mut String, line: &Line) -> Result<(), AllocError>
-    ensures { OnOk result (string_bytes text.new ≡ string_bytes text.old ++ line_text line.now) }
+/// Writes the moment, the side, the number, the link, the sequence number and the class of a frame.
+#[inline(always)]
+fn write_head(head: &Head, moment: u64, side: &str, line: &mut [u8], end: usize) -> usize
+    requires room { HEAD ≤ end }
+    requires short { length side.now + 1 ≤ SIDE }
+    requires within { end ≤ length line.old }
+    ensures order { result ≤ end }
+    ensures written { drop result line.new ≡ decimal moment ++ (codes " " ++ (side.now ++ (codes " "
+        ++ (decimal head.now.number ++ (codes " " ++ (number_text (link_number head.now) ++ (codes " "
+        ++ (number_text (sequence_of head.now) ++ (codes " " ++ (class_word head.now.class
+        ++ drop end line.old)))))))))) }
+{
+    let end = write_word(class_text(head.class), line, end);
+    let end = write_field(head.sequence(), line, end);
+    let end = write_field(head.link_number(), line, end);
+    let end = write_field(Some(head.number), line, end);
+    let end = write_word(side, line, end);
+    write_number(moment, line, end)
+}
+
+/// Writes the policing and the fate of a frame, and of the frame that it came out as the number, the transit
+/// and the first byte that differs.
+#[inline(always)]
+fn write_fate(before: &BeforeLine, line: &mut [u8], end: usize) -> usize
+    requires room { REST ≤ end }
+    requires within { end ≤ length line.old }
+    ensures order { result ≤ end }
+    ensures near { end ≤ result + REST }
+    ensures written { drop result line.new ≡ codes " " ++ (policing_text before.now.policed ++ (codes " "
+        ++ (fate_word before.now.fate ++ (codes " " ++ (number_text (partner_number before.now.partner)
+        ++ (codes " " ++ (transit_text before.now.transit ++ (codes " "
+        ++ (number_text (difference before.now.partner) ++ (codes "\n" ++ drop end line.old)))))))))) }
+{
+    let end = write_bytes(b"\n", line, end);
+    let end = write_field(difference(before.partner), line, end);
+    let end = write_transit(before.transit, line, end);
+    let end = write_field(partner_number(before.partner), line, end);
+    let end = write_word(before.fate.word(), line, end);
+    write_word(policing_word(before.policed), line, end)
+}
+
+/// Writes the line of a frame that went in at the end of the room, and returns where it starts.
+#[inline(always)]
+fn write_before(before: &BeforeLine, line: &mut [u8; MAX_LINE]) -> usize
+    ensures within { result ≤ MAX_LINE }
+    ensures written { drop result line.new ≡ line_text (Before before.now) }
+{
+    let end = write_fate(before, line, MAX_LINE);
+    write_head(&before.head, before.head.moment, "before", line, end)
+}
+
+/// The same of a frame without a partner that came out.
+fn write_after(after: &AfterLine, line: &mut [u8; MAX_LINE]) -> usize
+    ensures within { result ≤ MAX_LINE }
+    ensures written { drop result line.new ≡ line_text (After after.now) }
+{
+    let rest = write_bytes(b" - - -\n", line, MAX_LINE);
+    let origin = after.origin.word();
+    let named = write_word(origin, line, rest);
+    let dash = write_bytes(b" -", line, named);
+    write_head(&after.head, after.moment, "after", line, dash)
+}
+
+/// Appends the line of a frame that went in.
+#[inline]
+fn push_before(text: &mut Vec<u8>, before: &BeforeLine) -> Result<(), AllocError>
+    ensures added { OnOk result (text.new.items ≡ text.old.items ++ line_text (Before before.now)) }
+    ensures memory { OnErr result (text.new.items ≡ text.old.items) }
+{
+    let mut line = [0; MAX_LINE];
+    let start = write_before(before, &mut line);
+    text.extend_from_slice(&line[start..])
+}
+
+/// The same of a frame without a partner that came out.
+fn push_after(text: &mut Vec<u8>, after: &AfterLine) -> Result<(), AllocError>
+    ensures added { OnOk result (text.new.items ≡ text.old.items ++ line_text (After after.now)) }
+    ensures memory { OnErr result (text.new.items ≡ text.old.items) }
+{
+    let mut line = [0; MAX_LINE];
+    let start = write_after(after, &mut line);
+    text.extend_from_slice(&line[start..])
+}
+
+/// Appends a line.
+#[inline]
+pub(crate) fn push_line(text: &mut Vec<u8>, line: &Line) -> Result<(), AllocError>
+    ensures added { OnOk result (text.new.items ≡ text.old.items ++ line_text line.now) }
+    ensures memory { OnErr result (text.new.items ≡ text.old.items) }
 {
     match line {
-        Line::Before(line) => {
-            write_head(text, &line.head, line.head.moment, "before")?;
-            write_before(text, line)
-        }
-        Line::After(line) => {
-            write_head(text, &line.head, line.moment, "after")?;
-            write_after(text, line)
-        }
+        Line::Before(before) => push_before(text, before),
+        Line::After(after) => push_after(text, after),
     }
 }

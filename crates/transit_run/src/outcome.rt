@@ -1,6 +1,6 @@
 //! The outcome of a frame, as a ledger of transits says it.
 
-ghost use Rattle.std.specs.Prelude.{◌≡◌};
+ghost use Rattle.std.specs.Prelude.{◌≡◌, ◌≤◌, length};
 ghost use Rattle.transit_run.specs.Outcome.{fate_of, fate_of_missing, fate_of_pair, fate_place, fate_word, origin_of, origin_place, origin_word};
 
 /// How many outcomes there are of frames that went in.
@@ -167,7 +167,8 @@ impl Fate {
 
     /// The word of a ledger.
     pub fn word(self) -> &'static str
-        ensures { result.now ≡ fate_word self }
+        ensures word { result.now ≡ fate_word self }
+        ensures short { length result.now ≤ 9 }
     {
         match self {
             Fate::Cut => "-",
@@ -201,7 +202,8 @@ impl Origin {
 
     /// The word of a ledger.
     pub fn word(self) -> &'static str
-        ensures { result.now ≡ origin_word self }
+        ensures word { result.now ≡ origin_word self }
+        ensures short { length result.now ≤ 9 }
     {
         match self {
             Origin::Cut => "-",

@@ -1,7 +1,7 @@
 //! The pairs of frames, and the frames whose lines aren't written yet.
 
-ghost use Rattle.std.specs.Prelude.{◌≡◌, ◌+◌, ◌<◌, ◌↔◌, [], ◌∷◌, ◌++◌, IsSome, IsTrue, MatchOption, OnOk, length};
-ghost use Rattle.transit_run.specs.Held.{count_of, held, mark_of};
+ghost use Rattle.std.specs.Prelude.{◌≡◌, ◌+◌, ◌-◌, ◌<◌, ◌↔◌, [], ◌∷◌, ◌++◌, IsSome, IsTrue, MatchOption, OnOk, length, if◌then◌else◌};
+ghost use Rattle.transit_run.specs.Held.{Keeps, SameMarks, count_of, held, held_out, mark_of, out_mark, partner_mark, unpaired_mark};
 
 use crate::lane::Lane;
 use crate::options::Options;
@@ -29,6 +29,10 @@ pub(crate) struct Pairing {
     afters: VecDeque<ComeOut>,
     /// How many of those whose partner is certain.
     settled: usize,
+    /// The bytes of the frame that comes out.
+    bytes: Vec<u8>,
+    /// Room for the bytes of frames that go in.
+    spare: Vec<Vec<u8>>,
 }
 
 /// True if so much time, and more, is past since the moment. None: all of it is.
@@ -44,7 +48,9 @@ fn is_past(now: Option<u64>, moment: u64, time: u64) -> bool
 impl Pairing {
     /// Of no frame, in these lanes.
     pub(crate) fn new(alloc: Global, lanes: Vec<Lane>, options: &Options) -> Pairing
-        ensures { held result ≡ [] }
+        ensures frames { held result ≡ [] }
+        ensures out { held_out result ≡ [] }
+        ensures early { result.early ≡ options.now.early }
     {
         Pairing {
             alloc,
@@ -56,19 +62,23 @@ impl Pairing {
             expired: 0,
             afters: VecDeque::new(alloc),
             settled: 0,
+            bytes: Vec::new(alloc),
+            spare: Vec::new(alloc),
         }
     }
 
     /// A frame goes in.
+    #[tactic(auto, using(crate::proofs::Keeping::enters))]
     pub(crate) fn goes_in(&mut self, head: Head, bytes: &[u8]) -> Result<(), AllocError>
-        ensures { OnOk result (held self.new ≡ held self.old ++ mark_of head ∷ []) }
+        ensures frames { OnOk result (held self.new ≡ held self.old ++ mark_of head ∷ []) }
+        ensures early { self.new.early ≡ self.old.early }
+        ensures out { OnOk result (SameMarks (held_out self.new) (held_out self.old)) }
     {
-        let key = Vec::from_slice(self.alloc, bytes)?;
-        let bytes = Vec::from_slice(self.alloc, bytes)?;
+        let key = self.copy_of(bytes)?;
         let place = self.taken.saturating_add(self.befores.len() as u64);
         self.befores.push_back(GoneIn {
             head,
-            bytes,
+            bytes: Vec::new(self.alloc),
             partner: None,
             is_overtaken: false,
         })?;
@@ -76,47 +86,89 @@ impl Pairing {
             lane.facts.first_in = Some(lane.facts.first_in.unwrap_or(head.moment));
             if head.class != Class::Cut {
                 lane.alike.add(head.moment, place, key)?;
+                lane.free = lane.free.saturating_add(1);
             }
         }
         Ok(())
     }
 
-    /// A frame comes out. True if another frame that went in may be it, too.
-    pub(crate) fn comes_out(&mut self, head: Head, bytes: &[u8]) -> Result<bool, AllocError>
-        ensures { held self.new ≡ held self.old }
+    /// A copy of some bytes, in spare room if there is any.
+    fn copy_of(&mut self, bytes: &[u8]) -> Result<Vec<u8>, AllocError>
+        ensures { Keeps [] self.old self.new }
     {
-        let bytes = Vec::from_slice(self.alloc, bytes)?;
-        let came_out = head.moment.saturating_sub(self.early);
-        let (mut is_twice, mut is_choice) = (false, false);
-        let mut partner = None;
-        if let Some(lane) = self.lanes.get_mut(head.place) {
-            lane.facts.first_out = Some(lane.facts.first_out.unwrap_or(came_out));
-            if head.class != Class::Cut {
-                partner = lane.alike.take(&bytes, head.moment);
-                is_twice = partner.is_none() && lane.alike.knows(&bytes, head.moment);
-                is_choice = partner.is_some() && lane.alike.has(&bytes, head.moment);
-            }
-        }
-        match partner {
-            Some(place) => self.pair_alike(place, &head, came_out),
-            None => self.afters.push_back(ComeOut {
-                head,
-                bytes,
-                is_twice,
-                is_paired: false,
-            })?,
+        let mut copy = match self.spare.pop() {
+            Some(room) => room,
+            None => Vec::new(self.alloc),
+        };
+        copy.clear();
+        copy.extend_from_slice(bytes)?;
+        Ok(copy)
+    }
+
+    /// A frame comes out. True if another frame that went in may be it, too.
+    #[tactic(auto, using(crate::proofs::Keeping::comes_paired, crate::proofs::Keeping::comes_alone))]
+    pub(crate) fn comes_out(&mut self, head: Head, bytes: &[u8]) -> Result<bool, AllocError>
+        ensures { OnOk result (Keeps (out_mark self.old.early head ∷ []) self.old self.new) }
+    {
+        self.bytes.clear();
+        self.bytes.extend_from_slice(bytes)?;
+        let (partner, is_twice, is_choice) = self.take_alike(&head);
+        if !self.pair_alike(partner, &head) {
+            self.hold_alone(head, bytes, is_twice)?;
         }
         Ok(is_choice)
     }
 
-    /// The frame that went in at this place is the one that came out.
-    fn pair_alike(&mut self, place: u64, head: &Head, came_out: u64)
-        ensures { held self.new ≡ held self.old }
+    /// The place of the frame that went in with the bytes of one that comes out. None: there is none, or all
+    /// came out. Then, whether one did, and whether another may be it, too.
+    #[tactic(auto, using(crate::proofs::Keeping::keeps_same))]
+    fn take_alike(&mut self, head: &Head) -> (Option<u64>, bool, bool)
+        ensures { Keeps [] self.old self.new }
     {
+        let came_out = self.came_out(head);
+        let Some(lane) = self.lanes.get_mut(head.place) else {
+            return (None, false, false);
+        };
+        lane.facts.first_out = Some(lane.facts.first_out.unwrap_or(came_out));
+        if head.class == Class::Cut {
+            return (None, false, false);
+        }
+        match lane.take(&self.bytes, head.moment) {
+            Some(place) => (Some(place), false, lane.has(&self.bytes, head.moment)),
+            None => (None, lane.alike.knows(&self.bytes, head.moment), false),
+        }
+    }
+
+    /// Holds a frame that came out and has no partner.
+    #[tactic(auto, using(crate::proofs::Keeping::keeps_alone))]
+    fn hold_alone(&mut self, head: Head, bytes: &[u8], is_twice: bool) -> Result<(), AllocError>
+        ensures { OnOk result (Keeps (out_mark self.old.early head ∷ []) self.old self.new) }
+    {
+        self.afters.push_back(ComeOut {
+            head,
+            bytes: Vec::from_slice(self.alloc, bytes)?,
+            is_twice,
+            is_paired: false,
+        })?;
+        Ok(())
+    }
+
+    /// The frame that went in at this place is the one that came out. False: none without a partner is held
+    /// there.
+    fn pair_alike(&mut self, place: Option<u64>, head: &Head) -> bool
+        ensures { Keeps (if result then out_mark self.old.early head.now ∷ [] else []) self.old self.new }
+    {
+        let Some(place) = place else {
+            return false;
+        };
+        let came_out = self.came_out(head);
         let index = place.saturating_sub(self.taken) as usize;
         let Some(row) = self.befores.get_mut(index) else {
-            return;
+            return false;
         };
+        if row.partner.is_some() {
+            return false;
+        }
         row.partner = Some(Partner {
             number: head.number,
             moment: came_out,
@@ -127,19 +179,22 @@ impl Pairing {
                 row.is_overtaken = lane.facts.overtakes(row.head.moment, came_out);
             }
         }
+        true
     }
 
     /// All pairs that are certain where no frame before this moment follows; None: where none follows.
+    #[tactic(auto, using(crate::proofs::Keeping::keeps_then))]
     pub(crate) fn settle(&mut self, now: Option<u64>) -> Result<(), AllocError>
-        ensures { held self.new ≡ held self.old }
+        ensures { Keeps [] self.old self.new }
     {
         self.expire(now)?;
         self.pair_changed(now);
         Ok(())
     }
 
+    #[tactic(auto, using(crate::proofs::Keeping::keeps_then))]
     fn expire(&mut self, now: Option<u64>) -> Result<(), AllocError>
-        ensures { held self.new ≡ held self.old }
+        ensures { Keeps [] self.old self.new }
     {
         for _ in self.expired..self.befores.len() {
             if !self.expire_next(now)? {
@@ -151,8 +206,9 @@ impl Pairing {
 
     /// The next frame that went in, where it is alike to none that comes yet: if it has no partner, it may
     /// still be one that came out with other bytes.
+    #[tactic(auto, using(crate::proofs::Keeping::keeps_then, crate::proofs::Keeping::keeps_same))]
     fn expire_next(&mut self, now: Option<u64>) -> Result<bool, AllocError>
-        ensures { held self.new ≡ held self.old }
+        ensures { Keeps [] self.old self.new }
     {
         let (head, is_free) = match self.befores.get(self.expired) {
             Some(row) => (row.head, row.partner.is_none()),
@@ -163,21 +219,43 @@ impl Pairing {
         }
         let place = self.taken.saturating_add(self.expired as u64);
         let over = head.moment.saturating_add(self.window).saturating_add(1);
+        let mut key = None;
         if let Some(lane) = self.lanes.get_mut(head.place) {
             if head.class != Class::Cut {
-                lane.alike.forget_first(over);
+                key = lane.alike.forget_first(over);
+                lane.free = lane.free.saturating_sub(u64::from(is_free));
             }
             match head.address {
                 Some(address) if is_free => lane.placed.add(head.moment, place, place_of(address))?,
                 _ => {}
             }
         }
+        if let Some(key) = key {
+            self.give_back(key, is_free)?;
+        }
         self.expired = self.expired.saturating_add(1);
         Ok(true)
     }
 
+    /// The bytes of the next frame that went in: it has them while it may still be one that came out with
+    /// other bytes.
+    fn give_back(&mut self, key: Vec<u8>, is_free: bool) -> Result<(), AllocError>
+        ensures { Keeps [] self.old self.new }
+    {
+        if !is_free {
+            self.spare.push(key)?;
+            return Ok(());
+        }
+        let Some(row) = self.befores.get_mut(self.expired) else {
+            return Ok(());
+        };
+        row.bytes = key;
+        Ok(())
+    }
+
+    #[tactic(auto, using(crate::proofs::Keeping::keeps_then))]
     fn pair_changed(&mut self, now: Option<u64>)
-        ensures { held self.new ≡ held self.old }
+        ensures { Keeps [] self.old self.new }
     {
         for _ in self.settled..self.afters.len() {
             if !self.pair_next(now) {
@@ -187,8 +265,9 @@ impl Pairing {
     }
 
     /// The next frame that came out and is alike to none, where all that it may be went in.
+    #[tactic(auto, using(crate::proofs::Keeping::keeps_then, crate::proofs::Keeping::keeps_same))]
     fn pair_next(&mut self, now: Option<u64>) -> bool
-        ensures { held self.new ≡ held self.old }
+        ensures { Keeps [] self.old self.new }
     {
         let (head, is_twice) = match self.afters.get(self.settled) {
             Some(row) => (row.head, row.is_twice),
@@ -208,7 +287,7 @@ impl Pairing {
 
     /// The place of the frame that went in with the link and the sequence number of one that came out.
     fn take_placed(&mut self, head: &Head) -> Option<u64>
-        ensures { held self.new ≡ held self.old }
+        ensures { Keeps [] self.old self.new }
     {
         let address = head.address?;
         let lane = self.lanes.get_mut(head.place)?;
@@ -217,21 +296,25 @@ impl Pairing {
 
     /// The frame that went in at this place is the next that came out, with other bytes.
     fn change(&mut self, place: u64)
-        ensures { held self.new ≡ held self.old }
+        ensures { Keeps [] self.old self.new }
     {
         let early = self.early;
         let index = place.saturating_sub(self.taken) as usize;
         let Some(after) = self.afters.get_mut(self.settled) else {
             return;
         };
-        if let Some(row) = self.befores.get_mut(index) {
-            row.partner = Some(Partner {
-                number: after.head.number,
-                moment: after.head.moment.saturating_sub(early),
-                differs: Some(first_difference(&row.bytes, &after.bytes)),
-            });
-            after.is_paired = true;
+        let Some(row) = self.befores.get_mut(index) else {
+            return;
+        };
+        if after.is_paired || row.partner.is_some() {
+            return;
         }
+        row.partner = Some(Partner {
+            number: after.head.number,
+            moment: after.head.moment.saturating_sub(early),
+            differs: Some(first_difference(&row.bytes, &after.bytes)),
+        });
+        after.is_paired = true;
     }
 
     /// When the first frame that went in did so, of those that weren't taken.
@@ -250,9 +333,16 @@ impl Pairing {
         ensures { IsSome result ↔ (0 < length self.now.afters.items) }
     {
         match self.afters.front() {
-            Some(row) => Some(row.head.moment.saturating_sub(self.early)),
+            Some(row) => Some(self.came_out(&row.head)),
             None => None,
         }
+    }
+
+    /// When a frame came out.
+    pub(crate) fn came_out(&self, head: &Head) -> u64
+        ensures { result ≡ head.now.moment - self.now.early }
+    {
+        head.moment.saturating_sub(self.early)
     }
 
     /// How many frames weren't taken.
@@ -270,9 +360,13 @@ impl Pairing {
     }
 
     /// Takes the first frame that went in.
+    #[tactic(auto, using(crate::proofs::Keeping::taken_before, crate::proofs::Keeping::keeps_same))]
     pub(crate) fn take_before(&mut self) -> Option<GoneIn>
         ensures frames { MatchOption result (held self.new ≡ held self.old)
             (λ row. held self.old ≡ mark_of row.head ∷ held self.new) }
+        ensures early { self.new.early ≡ self.old.early }
+        ensures out { MatchOption result (Keeps [] self.old self.new)
+            (λ row. SameMarks (held_out self.old) (partner_mark row.partner ++ held_out self.new)) }
         ensures count { MatchOption result (length self.old.befores.items ≡ 0)
             (λ _. count_of self.new + 1 ≡ count_of self.old) }
     {
@@ -291,8 +385,12 @@ impl Pairing {
     }
 
     /// Takes the first frame that came out and isn't alike to one that went in.
+    #[tactic(auto, using(crate::proofs::Keeping::taken_after, crate::proofs::Keeping::keeps_same))]
     pub(crate) fn take_after(&mut self) -> Option<ComeOut>
         ensures frames { held self.new ≡ held self.old }
+        ensures early { self.new.early ≡ self.old.early }
+        ensures out { MatchOption result (Keeps [] self.old self.new)
+            (λ row. SameMarks (held_out self.old) (unpaired_mark self.old.early row ++ held_out self.new)) }
         ensures count { MatchOption result (length self.old.afters.items ≡ 0)
             (λ _. count_of self.new + 1 ≡ count_of self.old) }
     {

@@ -1,9 +1,10 @@
 //! The pass over both recordings.
 
-ghost use Rattle.std.specs.Prelude.{◌≡◌, ◌<◌, List, [], ◌∷◌, IfOk, IfSome, OnErr, OnOk, filter, length, string_bytes};
+ghost use Rattle.std.specs.Prelude.{◌≡◌, ◌<◌, ◌-◌, List, [], ◌∷◌, IfOk, IfSome, OnErr, OnOk, filter, length};
 ghost use Rattle.transit_run.specs.Counts.{IsCountOf, IsTallyOf, is_of};
-ghost use Rattle.transit_run.specs.Held.{Passes, Turns, held, mark_of, shown};
+ghost use Rattle.transit_run.specs.Held.{Passes, Turns, Writes, held, held_out, mark_of, shown, shown_out};
 ghost use Rattle.transit_run.specs.Ledger.{GoesOn, Grows, IsEmpty};
+ghost use Rattle.transit_run.specs.Told.{IsKnown, TellsOrigin, is_cut, is_discarded, is_excess, is_over, is_unsure, transit_by, transit_of};
 ghost use Rattle.transit_run.specs.declared.line.Line.{Line};
 
 use crate::facts::{Span, covers, is_by};
@@ -18,7 +19,7 @@ use crate::outcome::{Origin, Passage, fate_of, origin_of};
 use crate::pairing::Pairing;
 use crate::policer::police;
 use crate::reach::Reach;
-use crate::rows::{ComeOut, GoneIn, Head};
+use crate::rows::{ComeOut, GoneIn, Head, Partner};
 use crate::silence::Silence;
 use crate::tally::Tally;
 use afdx_frame::{LentFrame, Network, VlId};
@@ -42,7 +43,9 @@ pub struct Pass<'t> {
 }
 
 /// How long a frame took, in nanoseconds; below 0 where clocks are apart.
-fn transit_of(went_in: u64, came_out: u64) -> i64 {
+fn transit_by(went_in: u64, came_out: u64) -> i64
+    ensures { result ≡ transit_by went_in came_out }
+{
     if came_out >= went_in {
         i64::try_from(came_out - went_in).unwrap_or(i64::MAX)
     } else {
@@ -50,9 +53,42 @@ fn transit_of(went_in: u64, came_out: u64) -> i64 {
     }
 }
 
+/// How long a frame that went in at a moment took, if it came out.
+fn transit_of(moment: u64, partner: Option<Partner>) -> Option<i64>
+    ensures { result ≡ transit_of moment partner }
+{
+    match partner {
+        Some(partner) => Some(transit_by(moment, partner.moment)),
+        None => None,
+    }
+}
+
+/// True if some bytes of each frame of the class aren't recorded.
+fn is_cut(class: Class) -> bool
+    ensures { result ≡ is_cut class }
+{
+    matches!(class, Class::Cut)
+}
+
 /// True if the switch discards each frame of the class.
-fn is_discarded(class: Class) -> bool {
+fn is_discarded(class: Class) -> bool
+    ensures { result ≡ is_discarded class }
+{
     !matches!(class, Class::Regular | Class::Cut)
+}
+
+/// True if policing discards the frame.
+fn is_excess(policed: Option<Policed>) -> bool
+    ensures { result ≡ is_excess policed }
+{
+    matches!(policed, Some(Policed::Excess))
+}
+
+/// True if policing may discard the frame or not.
+fn is_unsure(policed: Option<Policed>) -> bool
+    ensures { result ≡ is_unsure policed }
+{
+    matches!(policed, Some(Policed::Unsure))
 }
 
 /// The ledger of no frame, with a place for each link of the table in its order.
@@ -85,6 +121,8 @@ impl<'t> Pass<'t> {
     pub fn new(alloc: Global, table: &'t Config, options: Options) -> Result<Pass<'t>, AllocError>
         ensures ledger { IfOk result (λ pass. IsEmpty pass.ledger) }
         ensures frames { IfOk result (λ pass. held pass.pairing ≡ []) }
+        ensures out { IfOk result (λ pass. held_out pass.pairing ≡ []) }
+        ensures early { IfOk result (λ pass. pass.pairing.early ≡ options.early) }
     {
         let ledger = make_ledger(alloc, table)?;
         let lanes = make_lanes(alloc, table, &options)?;
@@ -104,7 +142,7 @@ impl<'t> Pass<'t> {
     /// one of the other has been read, unless that has ended: so it is known which windows both cover.
     pub fn read(&mut self, network: Network, stamp: u64)
         ensures ledger { self.new.ledger ≡ self.old.ledger }
-        ensures frames { held self.new.pairing ≡ held self.old.pairing }
+        ensures frames { self.new.pairing ≡ self.old.pairing }
     {
         match network {
             Network::A => self.reach.read_in(stamp),
@@ -121,7 +159,8 @@ impl<'t> Pass<'t> {
     ///
     /// `AllocError` if there is no memory to hold it, or for lines.
     pub fn see(&mut self, frame: &LentFrame<'_>) -> Result<(), AllocError>
-        ensures ok { OnOk result (Passes self.old self.new (shown frame.now)) }
+        ensures ok { OnOk result (Passes self.old self.new (shown frame.now)
+            (shown_out self.old.pairing.early frame.now)) }
         ensures err { OnErr result (Grows self.old.ledger self.new.ledger) }
     {
         self.settle(Some(frame.stamp().0))?;
@@ -137,8 +176,9 @@ impl<'t> Pass<'t> {
     ///
     /// `AllocError` if there is no memory for lines.
     pub fn finish(&mut self) -> Result<(), AllocError>
-        ensures ok { OnOk result (Passes self.old self.new []) }
+        ensures ok { OnOk result (Passes self.old self.new [] []) }
         ensures all { OnOk result (held self.new.pairing ≡ []) }
+        ensures out { OnOk result (held_out self.new.pairing ≡ []) }
         ensures err { OnErr result (Grows self.old.ledger self.new.ledger) }
     {
         self.settle(None)?;
@@ -152,10 +192,8 @@ impl<'t> Pass<'t> {
     /// `AllocError` if there is no memory for lines.
     pub fn write_links(&mut self) -> Result<(), AllocError>
         ensures counts { self.new.ledger.counts ≡ self.old.ledger.counts }
-        ensures ok { OnOk result
-            (GoesOn (string_bytes self.old.ledger.text) (string_bytes self.new.ledger.text)) }
-        ensures err { OnErr result
-            (string_bytes self.new.ledger.text ≡ string_bytes self.old.ledger.text) }
+        ensures ok { OnOk result (GoesOn self.old.ledger.text.items self.new.ledger.text.items) }
+        ensures err { OnErr result (self.new.ledger.text.items ≡ self.old.ledger.text.items) }
     {
         let (lanes, latency) = (&self.pairing.lanes, &self.notes.latency);
         self.ledger.write_links(self.table, lanes, latency)
@@ -168,25 +206,24 @@ impl<'t> Pass<'t> {
     /// `AllocError` if there is no memory for the line.
     pub fn write_total(&mut self) -> Result<(), AllocError>
         ensures counts { self.new.ledger.counts ≡ self.old.ledger.counts }
-        ensures ok { OnOk result
-            (GoesOn (string_bytes self.old.ledger.text) (string_bytes self.new.ledger.text)) }
-        ensures err { OnErr result
-            (string_bytes self.new.ledger.text ≡ string_bytes self.old.ledger.text) }
+        ensures ok { OnOk result (GoesOn self.old.ledger.text.items self.new.ledger.text.items) }
+        ensures err { OnErr result (self.new.ledger.text.items ≡ self.old.ledger.text.items) }
     {
         self.ledger.write_total()
     }
 
     /// The lines so far that weren't taken yet.
-    pub fn text(&self) -> &str
-        ensures { result.now ≡ string_bytes self.now.ledger.text }
+    pub fn text(&self) -> &[u8]
+        ensures { result.now ≡ self.now.ledger.text.items }
     {
         self.ledger.text()
     }
 
     /// The lines so far were taken.
     pub fn clear_text(&mut self)
-        ensures text { string_bytes self.new.ledger.text ≡ [] }
+        ensures text { self.new.ledger.text.items ≡ [] }
         ensures counts { self.new.ledger.counts ≡ self.old.ledger.counts }
+        ensures frames { self.new.pairing ≡ self.old.pairing }
     {
         self.ledger.clear_text();
     }
@@ -301,7 +338,7 @@ impl<'t> Pass<'t> {
 
     /// The head of a frame's line. Its link has a lane then.
     fn head_of(&mut self, frame: &LentFrame<'_>) -> Result<Head, AllocError>
-        ensures ok { OnOk result (Passes self.old self.new []) }
+        ensures ok { OnOk result (Writes self.old self.new) }
         ensures err { OnErr result (Grows self.old.ledger self.new.ledger) }
         ensures mark { IfOk result (λ head. mark_of head ≡ record {
           moment = frame.now.stamp;
@@ -327,9 +364,9 @@ impl<'t> Pass<'t> {
     }
 
     /// The place of the lane of a link, or of the frames that name none; a new one if it has none.
-    #[tactic(auto, using(crate::proofs::Passing::passes_kept))]
+    #[tactic(auto, using(crate::proofs::Passing::writes_kept))]
     fn lane_of(&mut self, link: Option<VlId>) -> Result<usize, AllocError>
-        ensures ok { OnOk result (Passes self.old self.new []) }
+        ensures ok { OnOk result (Writes self.old self.new) }
         ensures err { OnErr result (Grows self.old.ledger self.new.ledger) }
     {
         let place = self.ledger.add_link(link)?;
@@ -345,7 +382,7 @@ impl<'t> Pass<'t> {
         ensures ok { OnOk result (Passes self.old self.new (record {
           moment = frame.now.stamp;
           number = frame.now.number;
-        } ∷ [])) }
+        } ∷ []) []) }
         ensures err { OnErr result (Grows self.old.ledger self.new.ledger) }
     {
         let head = self.head_of(frame)?;
@@ -354,8 +391,12 @@ impl<'t> Pass<'t> {
         Ok(())
     }
 
+    #[tactic(auto, using(crate::proofs::Passing::passes_out))]
     fn comes_out(&mut self, frame: &LentFrame<'_>) -> Result<(), AllocError>
-        ensures ok { OnOk result (Passes self.old self.new []) }
+        ensures ok { OnOk result (Passes self.old self.new [] (record {
+          moment = frame.now.stamp - self.old.pairing.early;
+          number = frame.now.number;
+        } ∷ [])) }
         ensures err { OnErr result (Grows self.old.ledger self.new.ledger) }
     {
         let head = self.head_of(frame)?;
@@ -371,18 +412,20 @@ impl<'t> Pass<'t> {
 
     /// All that is certain where no frame before this moment follows; None: where none follows.
     fn settle(&mut self, now: Option<u64>) -> Result<(), AllocError>
-        ensures ok { OnOk result (Passes self.old self.new []) }
+        ensures ok { OnOk result (Writes self.old self.new) }
         ensures err { OnErr result (Grows self.old.ledger self.new.ledger) }
         ensures done { OnOk result (now ≡ None → held self.new.pairing ≡ []) }
+        ensures out { OnOk result (now ≡ None → held_out self.new.pairing ≡ []) }
     {
         self.pairing.settle(now)?;
         self.write(now)
     }
 
     fn write(&mut self, now: Option<u64>) -> Result<(), AllocError>
-        ensures ok { OnOk result (Passes self.old self.new []) }
+        ensures ok { OnOk result (Writes self.old self.new) }
         ensures err { OnErr result (Grows self.old.ledger self.new.ledger) }
         ensures done { OnOk result (now ≡ None → held self.new.pairing ≡ []) }
+        ensures out { OnOk result (now ≡ None → held_out self.new.pairing ≡ []) }
     {
         for _ in 0..self.pairing.count() {
             if !self.write_next(now)? {
@@ -393,9 +436,9 @@ impl<'t> Pass<'t> {
     }
 
     /// Writes the next line, where it is certain.
-    #[tactic(auto, using(crate::proofs::Passing::passes_kept))]
+    #[tactic(auto, using(crate::proofs::Passing::writes_kept))]
     fn write_next(&mut self, now: Option<u64>) -> Result<bool, AllocError>
-        ensures ok { OnOk result (Passes self.old self.new []) }
+        ensures ok { OnOk result (Writes self.old self.new) }
         ensures err { OnErr result (Grows self.old.ledger self.new.ledger) }
         ensures turn { IfOk result (Turns now self.old.pairing self.new.pairing) }
     {
@@ -409,10 +452,10 @@ impl<'t> Pass<'t> {
         }
     }
 
-    #[tactic(auto, using(crate::proofs::Passing::passes_before, crate::proofs::Passing::passes_kept))]
+    #[tactic(auto, using(crate::proofs::Passing::writes_before, crate::proofs::Passing::writes_kept))]
     fn write_before(&mut self, now: Option<u64>, moment: u64) -> Result<bool, AllocError>
         requires { 0 < length self.old.pairing.befores.items }
-        ensures ok { OnOk result (Passes self.old self.new []) }
+        ensures ok { OnOk result (Writes self.old self.new) }
         ensures err { OnErr result (Grows self.old.ledger self.new.ledger) }
         ensures turn { IfOk result (Turns now self.old.pairing self.new.pairing) }
     {
@@ -423,10 +466,7 @@ impl<'t> Pass<'t> {
             return Ok(false);
         };
         let policed = police(&mut self.pairing.lanes, &row, &self.options);
-        let transit = match row.partner {
-            Some(partner) => Some(transit_of(moment, partner.moment)),
-            None => None,
-        };
+        let transit = transit_of(row.head.moment, row.partner);
         let fate = fate_of(self.passage_of(&row, policed, transit));
         let (lanes, bound) = (&mut self.pairing.lanes, self.options.bound);
         let start = self.reach.start().unwrap_or(moment);
@@ -443,7 +483,10 @@ impl<'t> Pass<'t> {
         Ok(true)
     }
 
-    fn passage_of(&self, row: &GoneIn, policed: Option<Policed>, transit: Option<i64>) -> Passage {
+    fn passage_of(&self, row: &GoneIn, policed: Option<Policed>, transit: Option<i64>) -> Passage
+        ensures { IsKnown self.now.options self.now.reach row.now.head row.now.partner policed transit
+            result }
+    {
         let (head, options) = (&row.head, &self.options);
         let is_on_a_link = head.class.is_on_a_link();
         let is_elsewhere = head
@@ -460,11 +503,11 @@ impl<'t> Pass<'t> {
             has_come
         };
         Passage {
-            is_cut: head.class == Class::Cut,
+            is_cut: is_cut(head.class),
             pair: row.pair(),
             is_routed_elsewhere: is_on_a_link && is_elsewhere,
-            is_discarded: is_discarded(head.class) || policed == Some(Policed::Excess),
-            is_unsure: policed == Some(Policed::Unsure),
+            is_discarded: is_discarded(head.class) || is_excess(policed),
+            is_unsure: is_unsure(policed),
             is_overtaken: row.is_overtaken,
             is_slow: is_over(transit, options.bound),
             is_covered: covers(
@@ -477,10 +520,10 @@ impl<'t> Pass<'t> {
         }
     }
 
-    #[tactic(auto, using(crate::proofs::Passing::passes_after, crate::proofs::Passing::passes_kept))]
+    #[tactic(auto, using(crate::proofs::Passing::writes_after, crate::proofs::Passing::writes_kept))]
     fn write_after(&mut self, now: Option<u64>, came_out: u64) -> Result<bool, AllocError>
         requires { 0 < length self.old.pairing.afters.items }
-        ensures ok { OnOk result (Passes self.old self.new []) }
+        ensures ok { OnOk result (Writes self.old self.new) }
         ensures err { OnErr result (Grows self.old.ledger self.new.ledger) }
         ensures turn { IfOk result (Turns now self.old.pairing self.new.pairing) }
     {
@@ -493,6 +536,7 @@ impl<'t> Pass<'t> {
         if row.is_paired {
             return Ok(true);
         }
+        let came_out = self.pairing.came_out(&row.head);
         let origin = self.origin_of(&row, came_out);
         let start = self.reach.start().unwrap_or(came_out);
         let lanes = &mut self.pairing.lanes;
@@ -506,7 +550,9 @@ impl<'t> Pass<'t> {
         Ok(true)
     }
 
-    fn origin_of(&self, row: &ComeOut, came_out: u64) -> Origin {
+    fn origin_of(&self, row: &ComeOut, came_out: u64) -> Origin
+        ensures { TellsOrigin self.now.options self.now.reach row.now.head came_out result }
+    {
         let options = &self.options;
         let first_in = match self.pairing.lanes.get(row.head.place) {
             Some(lane) => lane.facts.first_in,
@@ -516,7 +562,7 @@ impl<'t> Pass<'t> {
         let is_elsewhere = row.head.address.is_some() && !has_gone;
         let span = self.reach.in_span();
         origin_of(
-            row.head.class == Class::Cut,
+            is_cut(row.head.class),
             row.is_twice,
             covers(span, came_out, options.within, options.early),
             is_elsewhere,
@@ -525,7 +571,9 @@ impl<'t> Pass<'t> {
 }
 
 /// True if a transit is longer than the bound, if there is one.
-fn is_over(transit: Option<i64>, bound: Option<u64>) -> bool {
+fn is_over(transit: Option<i64>, bound: Option<u64>) -> bool
+    ensures { result ≡ is_over transit bound }
+{
     match (transit, bound) {
         (Some(transit), Some(bound)) => transit > 0 && transit.unsigned_abs() > bound,
         _ => false,

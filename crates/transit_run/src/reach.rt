@@ -1,5 +1,8 @@
 //! The times that the recordings cover.
 
+ghost use Rattle.std.specs.Prelude.{◌≡◌};
+ghost use Rattle.transit_run.specs.Told.{span_to};
+
 use crate::facts::Span;
 
 /// The times that both recordings cover, in nanoseconds.
@@ -44,14 +47,18 @@ impl Reach {
     }
 
     /// The recording at the port in, from its first frame to the last that was read.
-    pub(crate) fn in_span(&self) -> Option<Span> {
+    pub(crate) fn in_span(&self) -> Option<Span>
+        ensures { result ≡ span_to self.now.read_in self.now.in_span }
+    {
         let Span { first, last } = self.in_span?;
         let last = last.max(self.read_in);
         Some(Span { first, last })
     }
 
     /// The same of the recording at the port out.
-    pub(crate) fn out_span(&self) -> Option<Span> {
+    pub(crate) fn out_span(&self) -> Option<Span>
+        ensures { result ≡ span_to self.now.read_out self.now.out_span }
+    {
         let Span { first, last } = self.out_span?;
         let last = last.max(self.read_out);
         Some(Span { first, last })

@@ -2,8 +2,8 @@
 
 ghost use Rattle.std.specs.Prelude.{◌≡◌};
 ghost use Rattle.transit_run.specs.Line.{link_number, link_of, sequence_of};
+ghost use Rattle.transit_run.specs.Told.{pair_of};
 
-use crate::line::NumberOrDash;
 use crate::outcome::Pair;
 use afdx_frame::VlId;
 use vl_config::Class;
@@ -35,22 +35,22 @@ impl Head {
     }
 
     /// That link's number.
-    pub(crate) fn link_number(&self) -> NumberOrDash
-        ensures { result.0 ≡ link_number self.now }
+    pub(crate) fn link_number(&self) -> Option<u64>
+        ensures { result ≡ link_number self.now }
     {
         match self.address {
-            Some((VlId(link), _)) => NumberOrDash(Some(u64::from(link))),
-            None => NumberOrDash(None),
+            Some((VlId(link), _)) => Some(u64::from(link)),
+            None => None,
         }
     }
 
     /// The frame's sequence number.
-    pub(crate) fn sequence(&self) -> NumberOrDash
-        ensures { result.0 ≡ sequence_of self.now }
+    pub(crate) fn sequence(&self) -> Option<u64>
+        ensures { result ≡ sequence_of self.now }
     {
         match self.address {
-            Some((_, sequence)) => NumberOrDash(Some(u64::from(sequence))),
-            None => NumberOrDash(None),
+            Some((_, sequence)) => Some(u64::from(sequence)),
+            None => None,
         }
     }
 }
@@ -69,6 +69,7 @@ pub(crate) struct Partner {
 #[derive(Drop)]
 pub(crate) struct GoneIn {
     pub(crate) head: Head,
+    /// Its bytes, once none that is alike to it may come.
     pub(crate) bytes: Vec<u8>,
     pub(crate) partner: Option<Partner>,
     pub(crate) is_overtaken: bool,
@@ -76,7 +77,9 @@ pub(crate) struct GoneIn {
 
 impl GoneIn {
     /// How the frame is paired.
-    pub(crate) fn pair(&self) -> Pair {
+    pub(crate) fn pair(&self) -> Pair
+        ensures { result ≡ pair_of self.now.partner }
+    {
         match self.partner {
             None => Pair::Without,
             Some(Partner { differs: None, .. }) => Pair::Alike,

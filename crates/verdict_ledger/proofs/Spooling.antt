@@ -1,5 +1,5 @@
 -- Text that waits, and what the sink takes of it.
-use Rattle.std.proofs.Common.{◌≡◌, ℕ, ◌+◌, ◌-◌, ◌^◌, ◌<◌, min, List, [], ◌∷◌, ◌++◌, length, take, drop, flat_map, Option, None, Some, refl, sym, ap, ◌∙◌, subst, arith, append_assoc, append-nil, length-append}
+use Rattle.std.proofs.Common.{◌≡◌, ℕ, ◌+◌, ◌-◌, ◌^◌, ◌<◌, min, List, [], ◌∷◌, ◌++◌, length, take, drop, flat_map, Option, None, Some, refl, sym, ap, ◌∙◌, subst, arith, lit<, append_assoc, append-nil, length-append}
 use Rattle.std.specs.Prelude.{Result, Ok, Err, OnOk, IsErrAnd}
 use Rattle.std.proofs.KnownBytes.{Appends-nil, Appends-trans}
 use Rattle.std.specs.Io.KnownBytes.{Appends}
@@ -9,12 +9,14 @@ use Rattle.pcap_io.specs.declared.recording.Ending.{Ending}
 use Rattle.vl_config.specs.Link.{VirtualLink}
 use Rattle.verdict_ledger.specs.declared.totals.Totals.{Totals}
 use Rattle.verdict_ledger.specs.Entry.{Entry}
-use Rattle.verdict_ledger.specs.Text.{line_text, lines_text, link_line, count_field, end_text, tap_line}
+use Rattle.verdict_ledger.specs.Text.{ledger_head, line_text, lines_text, link_line, count_field, end_text, tap_line}
 use Rattle.verdict_ledger.specs.Writing.{IsAppended, IsSpooled, Moves, fault_of}
 use Rattle.verdict_ledger.proofs.Rounds.{texts_more, texts_split}
 use Rattle.verdict_ledger.specs.declared.fault.LedgerFault.{LedgerFault}
 use Rattle.verdict_ledger.specs.declared.fault.LedgerFault.TheVariants.{Device, Memory, Failed}
 use Rattle.verdict_ledger.specs.declared.link_counts.LinkCounts.{LinkCounts}
+use Rattle.verdict_ledger.specs.declared.version.LedgerVersion.{LedgerVersion}
+use Rattle.verdict_ledger.specs.declared.version.LedgerVersion.TheVariants.{Two, Three}
 
 -- more text waits
 pub pushed : (a : Option (List ℕ)) (m : ℕ) (t t' x : List ℕ) → t' ≡ t ++ x → IsSpooled None a a m m t t' x
@@ -63,13 +65,18 @@ appended (Some Device) a b m n t t' x none empty h = (subst (AppendsPrefix a b) 
 appended (Some Memory) a b m n t t' x none empty h = (subst (AppendsPrefix a b) (ap (λ (z : List ℕ). z ++ x) none) h.0, h.1)
 appended (Some Failed) a b m n t t' x none empty h = h
 
-pub line_some : (e : Entry) → 0 < length (line_text e)
+pub line_some : (version : LedgerVersion) (e : Entry) → 0 < length (line_text version e)
 unfolding line_text
-line_some e = simp length-append (omega arith)
+line_some version e = simp length-append (omega arith)
 
-pub lines_some : (entries : List Entry) → 0 < length entries → 0 < length (lines_text entries)
-lines_some [] some = absurd (omega arith)
-lines_some (e ∷ es) some = omega (arith, line_some e, length-append (line_text e) (lines_text es))
+pub head_some : (version : LedgerVersion) → 0 < length (ledger_head version)
+unfolding ledger_head
+head_some Two = lit< tt
+head_some Three = lit< tt
+
+pub lines_some : (version : LedgerVersion) (entries : List Entry) → 0 < length entries → 0 < length (lines_text version entries)
+lines_some version [] some = absurd (omega arith)
+lines_some version (e ∷ es) some = omega (arith, line_some version e, length-append (line_text version e) (lines_text version es))
 
 pub end_some : (totals : Totals) (filters : ℕ) (a b : Ending) → 0 < length (end_text totals filters a b)
 unfolding tap_line

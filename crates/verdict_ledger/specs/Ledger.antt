@@ -9,6 +9,7 @@ use Rattle.verdict_ledger.specs.declared.ledger.Ledger.{Ledger}
 use Rattle.verdict_ledger.specs.declared.tally.Tally.{Tally}
 use Rattle.verdict_ledger.specs.declared.totals.Totals.{Totals}
 use Rattle.verdict_ledger.specs.declared.link_counts.LinkCounts.{LinkCounts}
+use Rattle.verdict_ledger.specs.declared.version.LedgerVersion.{LedgerVersion}
 
 -- the sink that it writes to
 abbrev pub sink_of : {W : Type 0} → Ledger W → W
@@ -17,6 +18,10 @@ sink_of ledger = ledger.spool.sink
 -- a call has met a fault
 abbrev pub has_failed : {W : Type 0} → Ledger W → Bool
 has_failed ledger = ledger.failed
+
+-- the version of its text
+abbrev pub version_in : {W : Type 0} → Ledger W → LedgerVersion
+version_in ledger = ledger.version
 
 -- the counts of all frames
 abbrev pub totals_in : {W : Type 0} → Ledger W → Totals

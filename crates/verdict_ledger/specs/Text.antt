@@ -1,4 +1,4 @@
--- The text of a ledger, version 2 (this project's format): ASCII, single spaces, each line ended by a newline. Numbers are decimal.
+-- The text of a ledger, versions 2 and 3 (this project's format): ASCII, single spaces, each line ended by a newline. Numbers are decimal.
 use Rattle.std.specs.Prelude.{ℕ, ◌+◌, ◌/◌, ◌%◌, List, [], ◌∷◌, ◌++◌, flat_map, take, slice_index, Option, Some, None, codes, decimal, if◌then◌else◌}
 use Rattle.std.specs.Option.{option_map_or}
 use Rattle.afdx_frame.specs.Frame.{Frame, network_letter}
@@ -21,6 +21,8 @@ use Rattle.verdict_ledger.specs.Entry.{Entry}
 use Rattle.verdict_ledger.specs.Tally.{totals_of, link_counts}
 use Rattle.verdict_ledger.specs.declared.totals.Totals.{Totals}
 use Rattle.verdict_ledger.specs.declared.link_counts.LinkCounts.{LinkCounts}
+use Rattle.verdict_ledger.specs.declared.version.LedgerVersion.{LedgerVersion}
+use Rattle.verdict_ledger.specs.declared.version.LedgerVersion.TheVariants.{Two, Three}
 
 -- ---- fields: a space, and a word or a number; `-` where there is none
 
@@ -56,19 +58,26 @@ hex_digit n = slice_index (codes "0123456789abcdef") n
 abbrev pub mask_text : ℕ → List ℕ
 mask_text mask = hex_digit (mask / 16) ∷ hex_digit (mask % 16) ∷ []
 
--- timestamp, network, number, link, sequence number, class, policing, integrity, redundancy, bytes kept, and the mask of filters
-unfoldable pub line_text : Entry → List ℕ
-line_text e =
+-- the length on the wire, in version 3
+abbrev pub length_text : LedgerVersion → ℕ → List ℕ
+length_text Two whole = []
+length_text Three whole = number_field whole
+
+-- timestamp, network, number, link, sequence number, class, policing, integrity, redundancy, bytes kept, the mask of filters, and in version 3
+-- the length on the wire
+unfoldable pub line_text : LedgerVersion → Entry → List ℕ
+line_text version e =
     decimal e.frame.stamp
     ++ (word_field (network_letter e.frame.network)
     ++ (number_field e.frame.number
     ++ (address_text e.verdict.class e.frame
     ++ (verdict_text e.verdict
     ++ (optional_field e.keep
-    ++ (word_field (mask_text e.mask) ++ codes "\n"))))))
+    ++ (word_field (mask_text e.mask)
+    ++ (length_text version e.frame.whole ++ codes "\n")))))))
 
-abbrev pub lines_text : List Entry → List ℕ
-lines_text entries = flat_map line_text entries
+abbrev pub lines_text : LedgerVersion → List Entry → List ℕ
+lines_text version entries = flat_map (line_text version) entries
 
 -- ---- the lines after the frames
 
@@ -140,9 +149,10 @@ rest_text vl_table filters entries a b =
 
 -- ---- the whole
 
-unfoldable pub ledger_head : List ℕ
-ledger_head = codes "afdx-ledger 2\n"
+unfoldable pub ledger_head : LedgerVersion → List ℕ
+ledger_head Two = codes "afdx-ledger 2\n"
+ledger_head Three = codes "afdx-ledger 3\n"
 
 -- the ledger of the frames of two taps that end like this
-abbrev pub ledger_text : VlTable → ℕ → List Entry → Ending → Ending → List ℕ
-ledger_text vl_table filters entries a b = ledger_head ++ (lines_text entries ++ rest_text vl_table filters entries a b)
+abbrev pub ledger_text : LedgerVersion → VlTable → ℕ → List Entry → Ending → Ending → List ℕ
+ledger_text version vl_table filters entries a b = ledger_head version ++ (lines_text version entries ++ rest_text vl_table filters entries a b)

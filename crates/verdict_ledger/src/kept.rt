@@ -27,6 +27,10 @@ fn copies_of(alloc: Global, links: &[Link]) -> Result<Vec<Link>, AllocError>
 fn copy_of(alloc: Global, link: &Link) -> Result<Link, AllocError>
     ensures { IfOk result (λ copy. copy ≡ link.now) }
 {
+    let group = match &link.group {
+        Some(group) => Some(String::from_str(alloc, group)?),
+        None => None,
+    };
     Ok(Link {
         id: link.id,
         name: String::from_str(alloc, &link.name)?,
@@ -36,5 +40,6 @@ fn copy_of(alloc: Global, link: &Link) -> Result<Link, AllocError>
         integrity: link.integrity,
         redundancy: link.redundancy,
         skew: link.skew,
+        group,
     })
 }

@@ -12,15 +12,13 @@ use crate::kept::kept_of;
 use crate::spool::Spool;
 use crate::tally::Tally;
 use crate::totals::Totals;
+use crate::version::LedgerVersion;
 use afdx_frame::LentFrame;
 use frame_batch::Round;
 use pcap_io::{DeviceFault, Ending, OutSink, write_all};
 use std::alloc::{AllocError, Global};
 use vl_config::{Config, Link};
 use vl_judge::Verdict;
-
-/// The first line: the format, and its version.
-const HEAD: &str = "afdx-ledger 2\n";
 
 /// A ledger that is being written to a sink, which it holds.
 ///
@@ -30,6 +28,7 @@ const HEAD: &str = "afdx-ledger 2\n";
 pub struct Ledger<W> {
     spool: Spool<W>,
     failed: bool,
+    version: LedgerVersion,
     links: Vec<Link>,
     filters: u32,
     tally: Tally,
@@ -39,30 +38,31 @@ pub struct Ledger<W> {
 impl<W: OutSink> Ledger<W> {
     ghost use Rattle.verdict_ledger.specs.declared.fault.LedgerFault.TheVariants.{Memory, Failed};
     ghost use Rattle.verdict_ledger.specs.Ledger.{StandsAfter, begun_sink, finished_sink};
-    ghost use Rattle.verdict_ledger.specs.Ledger.{has_failed, sink_of, tally_in, totals_in};
+    ghost use Rattle.verdict_ledger.specs.Ledger.{has_failed, sink_of, tally_in, totals_in, version_in};
 
-    /// Writes the first line of the ledger of a table, for 1 to [`MAX_FILTERS`](crate::MAX_FILTERS)
-    /// filters.
+    /// Writes the first line of the ledger of a table, in this version, for 1 to
+    /// [`MAX_FILTERS`](crate::MAX_FILTERS) filters.
     ///
     /// # Errors
     ///
     /// `Device` if the sink failed, after a prefix of the line, and `Memory` before anything was
     /// written. Either gives the sink back. Whatever the table, the counts of all identifiers are
     /// allocated, so `Memory` may come for any.
-    #[tactic(auto, unfolding(crate::specs::Text::ledger_head))]
     pub fn begin(
         alloc: Global,
         config: &Config,
         filters: u32,
+        version: LedgerVersion,
         sink: W,
     ) -> Result<Ledger<W>, LedgerRefused<W>>
         requires some_filters { 1 ≤ filters }
         requires few_filters { filters ≤ MAX_FILTERS }
         ensures written { IsAppended (refusal_of result)
             (W.contents sink) (W.contents (begun_sink result))
-            (W.failures sink) (W.failures (begun_sink result)) ledger_head }
+            (W.failures sink) (W.failures (begun_sink result)) (ledger_head version) }
         ensures memory { IfErr result (λ r. r.fault ≡ Memory → r.sink ≡ sink) }
         ensures going { IfOk result (λ ledger. has_failed ledger ≡ false) }
+        ensures version { IfOk result (λ ledger. version_in ledger ≡ version) }
         ensures after { IfOk result (λ ledger. StandsAfter ledger config.now filters []) }
     {
         let (links, tally) = match kept_of(alloc, config) {
@@ -75,10 +75,11 @@ impl<W: OutSink> Ledger<W> {
             }
         };
         let mut sink = sink;
-        match write_all(&mut sink, HEAD.as_bytes()) {
+        match write_all(&mut sink, version.head().as_bytes()) {
             Ok(()) => Ok(Ledger {
                 spool: Spool::new(sink, Vec::new(alloc)),
                 failed: false,
+                version,
                 links,
                 filters,
                 tally,
@@ -110,10 +111,11 @@ impl<W: OutSink> Ledger<W> {
         ensures written { has_failed self.old ≡ false → IsAppended (fault_of result)
             (W.contents (sink_of self.old)) (W.contents (sink_of self.new))
             (W.failures (sink_of self.old)) (W.failures (sink_of self.new))
-            (line_text (entry_with frame.now verdict.now keep mask)) }
+            (line_text (version_in self.old) (entry_with frame.now verdict.now keep mask)) }
         ensures memory { result ≡ Err Memory → sink_of self.new ≡ sink_of self.old }
         ensures failed { has_failed self.old ≡ true
             → (result ≡ Err Failed) × (self.new ≡ self.old) }
+        ensures version { version_in self.new ≡ version_in self.old }
         ensures going { OnOk result
             ((has_failed self.old ≡ false) × (has_failed self.new ≡ false)) }
         ensures after_fault { OnErr result (has_failed self.new ≡ true) }
@@ -130,7 +132,8 @@ impl<W: OutSink> Ledger<W> {
         if self.failed {
             return Err(LedgerFault::Failed);
         }
-        match self.spool.write_line(frame, verdict, keep, mask) {
+        let version = self.version;
+        match self.spool.write_line(version, frame, verdict, keep, mask) {
             Ok(()) => {
                 self.tally.count(frame, verdict, keep, mask);
                 Ok(())
@@ -164,11 +167,12 @@ impl<W: OutSink> Ledger<W> {
         ensures written { has_failed self.old ≡ false → IsAppended (fault_of result)
             (W.contents (sink_of self.old)) (W.contents (sink_of self.new))
             (W.failures (sink_of self.old)) (W.failures (sink_of self.new))
-            (lines_text (entries_of frames.now verdicts.now keeps.now masks.now)) }
+            (lines_text (version_in self.old) (entries_of frames.now verdicts.now keeps.now masks.now)) }
         ensures memory { result ≡ Err Memory → 0 < length frames.now }
         ensures unwritten { result ≡ Err Memory → sink_of self.new ≡ sink_of self.old }
         ensures failed { has_failed self.old ≡ true
             → (result ≡ Err Failed) × (self.new ≡ self.old) }
+        ensures version { version_in self.new ≡ version_in self.old }
         ensures going { OnOk result
             ((has_failed self.old ≡ false) × (has_failed self.new ≡ false)) }
         ensures after_fault { OnErr result (has_failed self.new ≡ true) }
@@ -185,17 +189,18 @@ impl<W: OutSink> Ledger<W> {
         if self.failed {
             return Err(LedgerFault::Failed);
         }
-        let written = self.spool.write_lines(frames, verdicts, keeps, masks);
+        let written = self
+            .spool
+            .write_lines(self.version, frames, verdicts, keeps, masks);
         self.settle(written, frames, verdicts, keeps, masks)
     }
 
-    /// Writes the lines of a round's frames, which the caller has formatted by
-    /// [`append_lines`](crate::append_lines), and counts the frames: what `round` does, but it allocates
-    /// nothing.
+    /// Writes the text of a round's frames, and counts them: what `round` does, where the text is that of
+    /// [`append_lines`](crate::append_lines) in the ledger's version, but it allocates nothing.
     ///
     /// # Errors
     ///
-    /// `Device` if the sink failed, after a prefix of the lines; none of the frames is counted. Each
+    /// `Device` if the sink failed, after a prefix of the text; none of the frames is counted. Each
     /// later call returns `Failed`, and writes nothing.
     pub fn round_text(
         &mut self,
@@ -205,19 +210,17 @@ impl<W: OutSink> Ledger<W> {
         keeps: &[Option<u32>],
         masks: &[u8],
     ) -> Result<(), LedgerFault>
-        requires text { text.now
-            ≡ lines_text (entries_of frames.now verdicts.now keeps.now masks.now) }
         requires verdicts { length verdicts.now ≡ length frames.now }
         requires keeps { length keeps.now ≡ length frames.now }
         requires masks { length masks.now ≡ length frames.now }
         requires room { (totals_in self.old).frames + length frames.now ≤ MAX_LINES }
         ensures written { has_failed self.old ≡ false → IsAppended (fault_of result)
             (W.contents (sink_of self.old)) (W.contents (sink_of self.new))
-            (W.failures (sink_of self.old)) (W.failures (sink_of self.new))
-            (lines_text (entries_of frames.now verdicts.now keeps.now masks.now)) }
+            (W.failures (sink_of self.old)) (W.failures (sink_of self.new)) text.now }
         ensures memory { result ≢ Err Memory }
         ensures failed { has_failed self.old ≡ true
             → (result ≡ Err Failed) × (self.new ≡ self.old) }
+        ensures version { version_in self.new ≡ version_in self.old }
         ensures going { OnOk result
             ((has_failed self.old ≡ false) × (has_failed self.new ≡ false)) }
         ensures after_fault { OnErr result (has_failed self.new ≡ true) }
@@ -254,6 +257,7 @@ impl<W: OutSink> Ledger<W> {
         requires room { (totals_in self.old).frames + length frames.now ≤ MAX_LINES }
         ensures same { result ≡ written }
         ensures sink { sink_of self.new ≡ sink_of self.old }
+        ensures version { version_in self.new ≡ version_in self.old }
         ensures going { OnOk result (has_failed self.new ≡ has_failed self.old) }
         ensures after_fault { OnErr result (has_failed self.new ≡ true) }
         ensures counted { OnOk result
@@ -328,6 +332,7 @@ impl<W: OutSink> Ledger<W> {
         let Ledger {
             mut spool,
             failed,
+            version: _,
             links,
             filters,
             tally,

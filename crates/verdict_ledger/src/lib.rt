@@ -6,7 +6,7 @@
 //! a round at a time. When both recordings have ended it writes the counts.
 //!
 //! ```text
-//! let mut ledger = Ledger::begin(alloc, &config, 1, sink)?;
+//! let mut ledger = Ledger::begin(alloc, &config, 1, LedgerVersion::Two, sink)?;
 //! ledger.round(&frames, &verdicts, &keeps, &masks)?;
 //! let (sink, totals) = ledger.finish(Ending::Clean(2), Ending::Clean(1))?;
 //! ```
@@ -23,7 +23,7 @@
 //! total frames 3 accepted 2 cut 0 runt 0 oversize 0 foreign 0 unconfigured 0 toolong 0 excess 0 ..
 //! ```
 //!
-//! - [`Ledger`], with its faults [`LedgerFault`] and [`LedgerRefused`].
+//! - [`Ledger`], with its faults [`LedgerFault`] and [`LedgerRefused`], and its [`LedgerVersion`].
 //! - [`append_lines`], the lines of a round as text, for callers that format on other threads and then
 //!   hand the text to [`Ledger::round_text`].
 //! - [`Totals`], the counts of all frames, and [`LinkCounts`], those of a link. Each frame counts in one
@@ -43,6 +43,7 @@ mod spool;
 mod summary;
 mod tally;
 mod totals;
+mod version;
 mod words;
 
 pub use bounds::{MAX_FILTERS, MAX_LINES};
@@ -54,3 +55,4 @@ pub use link_counts::LinkCounts;
 pub use summary::{push_filter, push_link, push_total};
 pub use tally::Tally;
 pub use totals::Totals;
+pub use version::LedgerVersion;

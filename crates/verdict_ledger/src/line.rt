@@ -4,10 +4,11 @@ ghost use Rattle.afdx_frame.specs.View.{sequence_of};
 ghost use Rattle.verdict_ledger.specs.Entry.{entry_with};
 ghost use Rattle.verdict_ledger.specs.Room.{IsStart};
 ghost use Rattle.afdx_frame.specs.Frame.{network_letter};
-ghost use Rattle.verdict_ledger.specs.Text.{word_field, number_field, optional_field, address_text, verdict_text, mask_text, link_number, line_text};
-ghost use Rattle.verdict_ledger.specs.declared.line.TheConstants.{KEY, MASK, MAX_LINE, NUMBER_FIELD};
+ghost use Rattle.verdict_ledger.specs.Text.{word_field, number_field, optional_field, address_text, verdict_text, mask_text, length_text, link_number, line_text};
+ghost use Rattle.verdict_ledger.specs.declared.line.TheConstants.{KEY, LENGTH, MASK, MAX_LINE, NUMBER_FIELD};
 ghost use Rattle.verdict_ledger.specs.declared.words.TheConstants.{VERDICT};
 
+use crate::version::LedgerVersion;
 use crate::words::{VERDICT, network_field, verdict_field};
 use afdx_frame::LentFrame;
 use itoa::write_digits;
@@ -21,11 +22,14 @@ const NUMBER_FIELD: usize = 11;
 /// The most bytes of a timestamp (19), of the network (2) and of the frame's number.
 const KEY: usize = 21 + NUMBER_FIELD;
 
-/// The bytes of the mask, of the space before it and of the newline.
-const MASK: usize = 4;
+/// The bytes of the mask, and of the space before it.
+const MASK: usize = 3;
+
+/// The most bytes of the length on the wire, of the space before it and of the newline.
+const LENGTH: usize = NUMBER_FIELD + 1;
 
 /// Room for a line. The link, the sequence number and the count of bytes kept have that of a number each.
-const MAX_LINE: usize = KEY + 2 * NUMBER_FIELD + VERDICT + NUMBER_FIELD + MASK;
+const MAX_LINE: usize = KEY + 2 * NUMBER_FIELD + VERDICT + NUMBER_FIELD + MASK + LENGTH;
 
 /// The hexadecimal digits.
 const DIGITS: [u8; 16] = *b"0123456789abcdef";
@@ -122,18 +126,33 @@ fn write_verdict(verdict: &Verdict, line: &mut [u8], end: usize) -> usize
     write_bytes(verdict_field(verdict).as_bytes(), line, end)
 }
 
-/// Writes the mask of the filters that accept a frame, and the end of its line.
+/// Writes the mask of the filters that accept a frame.
 #[inline(always)]
 fn write_mask(mask: u8, line: &mut [u8], end: usize) -> usize
     requires room { MASK ≤ end }
     requires within { end ≤ length line.old }
     ensures start { IsStart MASK end result }
-    ensures written { drop result line.new
-        ≡ (word_field (mask_text mask) ++ codes "\n") ++ drop end line.old }
+    ensures written { drop result line.new ≡ word_field (mask_text mask) ++ drop end line.old }
 {
     let high = DIGITS[usize::from(mask / 16)];
     let low = DIGITS[usize::from(mask % 16)];
-    write_bytes(&[b' ', high, low, b'\n'], line, end)
+    write_bytes(&[b' ', high, low], line, end)
+}
+
+/// Writes the length on the wire, in a version that has it, and the end of the line.
+#[inline(always)]
+fn write_length(version: LedgerVersion, whole: u32, line: &mut [u8], end: usize) -> usize
+    requires room { LENGTH ≤ end }
+    requires within { end ≤ length line.old }
+    ensures start { IsStart LENGTH end result }
+    ensures written { drop result line.new
+        ≡ length_text version whole ++ (codes "\n" ++ drop end line.old) }
+{
+    let end = write_bytes(b"\n", line, end);
+    match version {
+        LedgerVersion::Two => end,
+        LedgerVersion::Three => write_number_field(u64::from(whole), line, end),
+    }
 }
 
 /// Writes the timestamp, the network and the number of a frame.
@@ -157,6 +176,7 @@ fn write_key(frame: &LentFrame<'_>, line: &mut [u8], end: usize) -> usize
 #[tactic(auto, unfolding(crate::specs::Text::line_text))]
 fn write_line(
     line: &mut [u8; MAX_LINE],
+    version: LedgerVersion,
     frame: &LentFrame<'_>,
     verdict: &Verdict,
     keep: Option<u32>,
@@ -164,29 +184,31 @@ fn write_line(
 ) -> usize
     ensures within { result ≤ MAX_LINE }
     ensures written { drop result line.new
-        ≡ line_text (entry_with frame.now verdict.now keep mask) }
+        ≡ line_text version (entry_with frame.now verdict.now keep mask) }
 {
-    let end = write_mask(mask, line, MAX_LINE);
+    let end = write_length(version, frame.whole(), line, MAX_LINE);
+    let end = write_mask(mask, line, end);
     let end = write_optional_field(keep, line, end);
     let end = write_verdict(verdict, line, end);
     let end = write_address(verdict.class, frame, line, end);
     write_key(frame, line, end)
 }
 
-/// Appends the line of a frame.
+/// Appends the line of a frame, in this version.
 #[inline]
 pub fn push_line(
     text: &mut Vec<u8>,
+    version: LedgerVersion,
     frame: &LentFrame<'_>,
     verdict: &Verdict,
     keep: Option<u32>,
     mask: u8,
 ) -> Result<(), AllocError>
     ensures line { OnOk result (text.new.items
-        ≡ text.old.items ++ line_text (entry_with frame.now verdict.now keep mask)) }
+        ≡ text.old.items ++ line_text version (entry_with frame.now verdict.now keep mask)) }
     ensures memory { OnErr result (text.new.items ≡ text.old.items) }
 {
     let mut line = [0; MAX_LINE];
-    let start = write_line(&mut line, frame, verdict, keep, mask);
+    let start = write_line(&mut line, version, frame, verdict, keep, mask);
     text.extend_from_slice(&line[start..])
 }

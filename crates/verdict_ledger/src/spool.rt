@@ -14,6 +14,7 @@ use crate::lines::append_lines;
 use crate::link_counts::LinkCounts;
 use crate::summary::{push_end, push_link};
 use crate::tally::Tally;
+use crate::version::LedgerVersion;
 use afdx_frame::LentFrame;
 use frame_batch::Round;
 use pcap_io::{Ending, OutSink, write_all};
@@ -102,6 +103,7 @@ impl<W: OutSink> Spool<W> {
     #[inline]
     pub fn write_line(
         &mut self,
+        version: LedgerVersion,
         frame: &LentFrame<'_>,
         verdict: &Verdict,
         keep: Option<u32>,
@@ -110,17 +112,18 @@ impl<W: OutSink> Spool<W> {
         ensures written { IsAppended (fault_of result)
             (W.contents self.old.sink) (W.contents self.new.sink)
             (W.failures self.old.sink) (W.failures self.new.sink)
-            (line_text (entry_with frame.now verdict.now keep mask)) }
+            (line_text version (entry_with frame.now verdict.now keep mask)) }
         ensures memory { result ≡ Err Memory → self.new.sink ≡ self.old.sink }
     {
         self.text.clear();
-        push_line(&mut self.text, frame, verdict, keep, mask)?;
+        push_line(&mut self.text, version, frame, verdict, keep, mask)?;
         self.flush()
     }
 
     /// Writes the lines of a round's frames. A round of no frames needs no memory.
     pub fn write_lines(
         &mut self,
+        version: LedgerVersion,
         frames: &Round,
         verdicts: &[Verdict],
         keeps: &[Option<u32>],
@@ -132,12 +135,19 @@ impl<W: OutSink> Spool<W> {
         ensures written { IsAppended (fault_of result)
             (W.contents self.old.sink) (W.contents self.new.sink)
             (W.failures self.old.sink) (W.failures self.new.sink)
-            (lines_text (entries_of frames.now verdicts.now keeps.now masks.now)) }
+            (lines_text version (entries_of frames.now verdicts.now keeps.now masks.now)) }
         ensures some { result ≡ Err Memory → 0 < length frames.now }
         ensures memory { result ≡ Err Memory → self.new.sink ≡ self.old.sink }
     {
         self.text.clear();
-        append_lines(&mut self.text, &frames.all(), verdicts, keeps, masks)?;
+        append_lines(
+            &mut self.text,
+            version,
+            &frames.all(),
+            verdicts,
+            keeps,
+            masks,
+        )?;
         self.flush()
     }
 

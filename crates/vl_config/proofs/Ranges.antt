@@ -2,14 +2,14 @@
 use Rattle.std.proofs.Common.{◌≡◌, ℕ, ◌*◌, ◌≤◌, Bool, true, false, ◌||◌, not, cond, List, [], ◌∷◌, Option, Some, None, is_none, unwrap_or, ◌==◌, refl, leb-true, eq-eqb, arith}
 use Rattle.std.proofs.lemmas.Bool.{and_parts, eqb-true}
 use Rattle.std.proofs.lemmas.Bool.Decides.{nat_tests}
-use Rattle.std.specs.Option.{option_map_or, option_and_then}
+use Rattle.std.specs.Option.{option_map, option_map_or, option_and_then}
 use Rattle.std.specs.List.{list_any}
 use Rattle.toml.specs.Data.{Data, Members, get_member, as_str}
 use Rattle.vl_config.specs.declared.fault.ConfigFault.{ConfigFault}
 use Rattle.vl_config.specs.declared.key.Key.{Key}
 use Rattle.vl_config.specs.Link.{bags_ms, is_name}
 use Rattle.vl_config.specs.declared.fault.ConfigFault.TheVariants.{Missing, Kind, Range, UnknownKey}
-use Rattle.vl_config.specs.declared.key.Key.TheVariants.{Id, Name, BagMs, JitterUs, Smax, SkewUs}
+use Rattle.vl_config.specs.declared.key.Key.TheVariants.{Id, Name, BagMs, JitterUs, Smax, SkewUs, Group}
 use Rattle.vl_config.specs.Keys.{key_name, natural_in, allows, is_missing, is_other_kind, is_out_of_range, has_unknown, link_keys, keys_fault}
 use Rattle.vl_config.specs.Document.{number_at, text_of, HasRanges}
 
@@ -53,6 +53,13 @@ allowed_name (Some d) missing range = allowed_text (as_str d) range
         allowed_test : (b : Bool) → not b ≡ false → b ≡ true
         allowed_test true e = refl
         allowed_test false e = cc
+
+-- a group in range, which need not be there
+allowed_group : (found : Option Data) →
+    option_map_or (λ d. not (option_map_or is_name (as_str d) false)) found false ≡ false →
+    option_map_or is_name (option_map text_of found) true ≡ true
+allowed_group None range = refl
+allowed_group (Some d) range = allowed_name (Some d) refl range
 
 -- the gaps in milliseconds and in nanoseconds
 bag_in : (ms : ℕ) (bags : List ℕ) → list_any (λ b. ms == b) bags ≡ true → list_any (λ b. b * 1000000 == ms * 1000000) bags ≡ true
@@ -99,4 +106,5 @@ link_ranges members place e =
       smallest = leb-true _ _ smax.0;
       largest = leb-true _ _ smax.1;
       skew = leb-true _ _ (allowed (allows SkewUs) (get_member (key_name SkewUs) members) missing.1.1.1.1.1.1.1.0 range.1.1.1.1.1.1.1.0);
+      group = allowed_group (get_member (key_name Group) members) range.1.1.1.1.1.1.1.1.0;
     }

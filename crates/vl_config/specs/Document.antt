@@ -1,6 +1,6 @@
 -- A TOML document as a table of virtual links, and its first fault (this project's profile).
-use Rattle.std.specs.Prelude.{◌≡◌, ℕ, ◌+◌, ◌*◌, ◌≤◌, ◌⊎◌, IsTrue, Bool, false, ◌||◌, List, [], ◌∷◌, ◌++◌, length, map, Option, Some, None, unwrap_or, ◌==◌, nat_eq, nat_lt, if◌then◌else◌, IsPermutation}
-use Rattle.std.specs.Option.{option_map_or, option_and_then, option_or}
+use Rattle.std.specs.Prelude.{◌≡◌, ℕ, ◌+◌, ◌*◌, ◌≤◌, ◌⊎◌, IsTrue, Bool, true, false, ◌||◌, List, [], ◌∷◌, ◌++◌, length, map, Option, Some, None, unwrap_or, ◌==◌, nat_eq, nat_lt, if◌then◌else◌, IsPermutation}
+use Rattle.std.specs.Option.{option_map, option_map_or, option_and_then, option_or}
 use Rattle.std.specs.List.{list_any, IsDistinct}
 use Rattle.std.specs.List.Sorted.{IsNonDecreasingBy}
 use Rattle.std.specs.Cmp.Lexicographic.{pointwise}
@@ -11,7 +11,7 @@ use Rattle.vl_config.specs.declared.config.TheConstants.{MAX_LINKS, MAX_TABLE_FI
 use Rattle.vl_config.specs.declared.fault.ConfigFault.{ConfigFault}
 use Rattle.vl_config.specs.declared.fault.ConfigFault.TheVariants.{Text, Kind, TwiceId, TwiceName, TooMany}
 use Rattle.vl_config.specs.declared.key.Key.{Key}
-use Rattle.vl_config.specs.declared.key.Key.TheVariants.{Constant, Link, LateUs, Filters, Id, Name, BagMs, JitterUs, Smax, Integrity, Redundancy, SkewUs}
+use Rattle.vl_config.specs.declared.key.Key.TheVariants.{Constant, Link, LateUs, Filters, Id, Name, BagMs, JitterUs, Smax, Integrity, Redundancy, SkewUs, Group}
 use Rattle.vl_config.specs.Keys.{key_name, natural_in, top_keys, link_keys, keys_fault}
 use Rattle.afdx_frame.specs.declared.key.VlId.{VlId}
 use Rattle.vl_config.specs.Link.{VirtualLink, bags_ms, is_name}
@@ -26,6 +26,9 @@ text_of d = unwrap_or (as_str d) []
 
 abbrev pub text_at : Key → Members → List ℕ
 text_at key members = option_map_or text_of (get_member (key_name key) members) []
+
+abbrev pub text_if_at : Key → Members → Option (List ℕ)
+text_if_at key members = option_map text_of (get_member (key_name key) members)
 
 abbrev pub flag_at : Key → Members → Bool
 flag_at key members = unwrap_or (option_and_then as_bool (get_member (key_name key) members)) false
@@ -52,6 +55,7 @@ link_of members = record {
   integrity = flag_at Integrity members;
   redundancy = flag_at Redundancy members;
   skew = number_at SkewUs members * 1000;
+  group = text_if_at Group members;
 }
 
 abbrev pub link_in : Data → VirtualLink
@@ -152,3 +156,4 @@ pub record HasRanges (members : Members) : Type 0 where
   pub smallest : 64 ≤ number_at Smax members
   pub largest : number_at Smax members ≤ 1518
   pub skew : number_at SkewUs members ≤ 1000000
+  pub group : IsTrue (option_map_or is_name (text_if_at Group members) true)

@@ -7,14 +7,14 @@ use Rattle.toml.specs.Data.{Data, array, Items, no_items, item, Members, no_memb
 use Rattle.vl_config.specs.declared.fault.ConfigFault.{ConfigFault}
 use Rattle.vl_config.specs.declared.fault.ConfigFault.TheVariants.{Missing, Kind, Range, UnknownKey}
 use Rattle.vl_config.specs.declared.key.Key.{Key}
-use Rattle.vl_config.specs.declared.key.Key.TheVariants.{Constant, Link, LateUs, Filters, Id, Name, BagMs, JitterUs, Smax, Integrity, Redundancy, SkewUs}
+use Rattle.vl_config.specs.declared.key.Key.TheVariants.{Constant, Link, LateUs, Filters, Id, Name, BagMs, JitterUs, Smax, Integrity, Redundancy, SkewUs, Group}
 use Rattle.vl_config.specs.Link.{bags_ms, is_name}
 
 abbrev pub top_keys : List Key
 top_keys = Constant ∷ Link ∷ LateUs ∷ Filters ∷ []
 
 abbrev pub link_keys : List Key
-link_keys = Id ∷ Name ∷ BagMs ∷ JitterUs ∷ Smax ∷ Integrity ∷ Redundancy ∷ SkewUs ∷ []
+link_keys = Id ∷ Name ∷ BagMs ∷ JitterUs ∷ Smax ∷ Integrity ∷ Redundancy ∷ SkewUs ∷ Group ∷ []
 
 abbrev pub key_name : Key → List ℕ
 key_name Constant = codes "constant"
@@ -29,12 +29,14 @@ key_name Smax = codes "smax"
 key_name Integrity = codes "integrity"
 key_name Redundancy = codes "redundancy"
 key_name SkewUs = codes "skew_us"
+key_name Group = codes "group"
 
--- all but these three must be there
+-- all but these four must be there
 abbrev pub is_required : Key → Bool
 is_required Link = false
 is_required LateUs = false
 is_required Filters = false
+is_required Group = false
 is_required _ = true
 
 -- ---- types
@@ -52,6 +54,7 @@ abbrev pub is_kind : Key → Data → Bool
 is_kind Link d = is_array_of (λ i. is_some (as_table i)) d
 is_kind Filters d = is_array_of (λ i. is_some (as_str i)) d
 is_kind Name d = is_some (as_str d)
+is_kind Group d = is_some (as_str d)
 is_kind Integrity d = is_some (as_bool d)
 is_kind Redundancy d = is_some (as_bool d)
 is_kind _ d = is_some (as_integer d)
@@ -82,6 +85,7 @@ in_range Filters d = true
 in_range Integrity d = true
 in_range Redundancy d = true
 in_range Name d = option_map_or is_name (as_str d) false
+in_range Group d = option_map_or is_name (as_str d) false
 in_range key d = option_map_or (allows key) (natural_in d) false
 
 -- ---- the first fault of the keys of a table; `place` is the index of the link, none at the top

@@ -1,6 +1,7 @@
 -- A virtual link of the table, and the ranges of its parameters (this project's profile).
-use Rattle.std.specs.Prelude.{ℕ, ◌*◌, ◌≤◌, ◌==◌, Bool, ◌&&◌, ◌||◌, IsTrue, List, [], ◌∷◌, length, nat_le}
+use Rattle.std.specs.Prelude.{ℕ, ◌*◌, ◌≤◌, ◌==◌, Bool, ◌&&◌, ◌||◌, IsTrue, true, List, [], ◌∷◌, Option, length, nat_le}
 use Rattle.std.specs.List.{list_any, list_all}
+use Rattle.std.specs.Option.{option_map_or}
 use Rattle.afdx_frame.specs.declared.key.VlId.{VlId}
 
 -- times are in nanoseconds, sizes in bytes
@@ -13,6 +14,7 @@ pub record VirtualLink : Type 0 where
   pub integrity : Bool
   pub redundancy : Bool
   pub skew : ℕ
+  pub group : Option (List ℕ)
 
 -- the bandwidth allocation gaps in milliseconds: the powers of 2 up to 128 (ARINC 664 Part 7)
 abbrev pub bags_ms : List ℕ
@@ -35,3 +37,4 @@ pub record IsLink (link : VirtualLink) : Type 0 where
   pub smallest : 64 ≤ link.smax
   pub largest : link.smax ≤ 1518
   pub skew : link.skew ≤ 1000000000
+  pub group : IsTrue (option_map_or is_name link.group true)

@@ -24,13 +24,14 @@ pub enum Key {
     Integrity,
     Redundancy,
     SkewUs,
+    Group,
 }
 
 /// The keys of the top table.
 pub const TOP_KEYS: [Key; 4] = [Key::Constant, Key::Link, Key::LateUs, Key::Filters];
 
 /// The keys of a link.
-pub const LINK_KEYS: [Key; 8] = [
+pub const LINK_KEYS: [Key; 9] = [
     Key::Id,
     Key::Name,
     Key::BagMs,
@@ -39,6 +40,7 @@ pub const LINK_KEYS: [Key; 8] = [
     Key::Integrity,
     Key::Redundancy,
     Key::SkewUs,
+    Key::Group,
 ];
 
 impl Key {
@@ -59,6 +61,7 @@ impl Key {
             Key::Integrity => "integrity",
             Key::Redundancy => "redundancy",
             Key::SkewUs => "skew_us",
+            Key::Group => "group",
         }
     }
 
@@ -77,6 +80,7 @@ impl Key {
             Key::Integrity => "integrity is true or false",
             Key::Redundancy => "redundancy is true or false",
             Key::SkewUs => "skew_us is an integer, 0 to 1000000",
+            Key::Group => "group is a string of 1 to 32 letters, digits, _ and -",
         }
     }
 
@@ -84,7 +88,7 @@ impl Key {
     pub fn is_required(self) -> bool
         ensures { result ≡ is_required self }
     {
-        !matches!(self, Key::Link | Key::LateUs | Key::Filters)
+        !matches!(self, Key::Link | Key::LateUs | Key::Filters | Key::Group)
     }
 
     /// Has the value the key's type?
@@ -92,7 +96,7 @@ impl Key {
         ensures { result ≡ is_kind self (view value.now) }
     {
         match self {
-            Key::Name => value.is_str(),
+            Key::Name | Key::Group => value.is_str(),
             Key::Integrity | Key::Redundancy => value.is_bool(),
             Key::Link => is_array_of_tables(value),
             Key::Filters => is_array_of_strings(value),
@@ -105,7 +109,7 @@ impl Key {
         ensures { result ≡ in_range self (view value.now) }
     {
         match self {
-            Key::Name => match value.as_str() {
+            Key::Name | Key::Group => match value.as_str() {
                 Some(name) => is_name(name.as_bytes()),
                 None => false,
             },

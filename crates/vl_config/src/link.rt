@@ -29,10 +29,13 @@ pub struct Link {
     /// SkewMax, the greatest difference of time between the two copies of a frame, in nanoseconds:
     /// at most 1 s.
     pub skew: u64,
+    /// The group that it belongs to, as an LRU or a port, if it has one: a text like a name.
+    pub group: Option<String>,
 }
 
 impl Model for Link {
     ghost use Rattle.std.specs.Prelude.{string_bytes};
+    ghost use Rattle.std.specs.Option.{option_map};
     ghost use Rattle.vl_config.specs.Link.{VirtualLink, IsLink};
 
     ghost Value = { VirtualLink };
@@ -46,6 +49,7 @@ impl Model for Link {
       integrity = link.integrity;
       redundancy = link.redundancy;
       skew = link.skew;
+      group = option_map string_bytes link.group;
     } };
 
     ghost invariant = { λ link. IsLink (record {
@@ -57,5 +61,6 @@ impl Model for Link {
       integrity = link.integrity;
       redundancy = link.redundancy;
       skew = link.skew;
+      group = option_map string_bytes link.group;
     }) };
 }

@@ -10,7 +10,7 @@ ghost use Rattle.vl_config.specs.declared.config.TheConstants.{MAX_LINKS};
 use crate::fault::ConfigFault;
 use crate::key::{Key, LINK_KEYS};
 use crate::link::Link;
-use crate::tables::{check_keys, flag_at, number_at, text_at};
+use crate::tables::{check_keys, flag_at, number_at, text_at, text_if_at};
 use afdx_frame::VlId;
 use std::alloc::Global;
 use toml::{Table, Value};
@@ -60,6 +60,10 @@ fn make_link(alloc: Global, table: &Table) -> Result<Link, ConfigFault>
     ensures memory { IfErr result (λ fault. fault ≡ ConfigFault.Memory) }
 {
     let name = String::from_str(alloc, text_at(table, Key::Name))?;
+    let group = match text_if_at(table, Key::Group) {
+        Some(group) => Some(String::from_str(alloc, group)?),
+        None => None,
+    };
     Ok(Link {
         id: VlId(number_at(table, Key::Id) as u16),
         name,
@@ -69,6 +73,7 @@ fn make_link(alloc: Global, table: &Table) -> Result<Link, ConfigFault>
         integrity: flag_at(table, Key::Integrity),
         redundancy: flag_at(table, Key::Redundancy),
         skew: number_at(table, Key::SkewUs) * MICROSECOND,
+        group,
     })
 }
 

@@ -8,7 +8,7 @@ ghost use Rattle.std.specs.Cmp.Lexicographic.{pointwise};
 ghost use Rattle.toml.specs.Data.{get_member};
 ghost use Rattle.toml.specs.View.{view, table_view};
 ghost use Rattle.vl_config.specs.Keys.{key_name, is_missing, is_other_kind, is_out_of_range, is_known, is_unknown, has_unknown, keys_fault};
-ghost use Rattle.vl_config.specs.Document.{number_at, text_at, flag_at, items_at};
+ghost use Rattle.vl_config.specs.Document.{number_at, text_at, text_if_at, flag_at, items_at};
 
 use crate::fault::ConfigFault;
 use crate::key::{Key, natural};
@@ -140,6 +140,14 @@ pub fn text_at(table: &Table, key: Key) -> &str
         Some(value) => value.as_str().unwrap_or(""),
         None => "",
     }
+}
+
+/// The string at a key, if there is a value.
+pub fn text_if_at(table: &Table, key: Key) -> Option<&str>
+    ensures { option_map (λ text. text.now) result ≡ text_if_at key (table_view table.now) }
+{
+    let value = value_at(table, key)?;
+    Some(value.as_str().unwrap_or(""))
 }
 
 /// The boolean at a key, false where there is none.

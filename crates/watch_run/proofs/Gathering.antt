@@ -44,9 +44,9 @@ both_written ps fs gs vs ws first more both judged one two joined =
           ∙ ap (packets_of ps.format) whole)));
       lines_are = joined.lines_are
           ∙ (ap (λ l. l ++ more.lines.items) one.lines_are
-          ∙ (ap (λ l. lines_text (entries_of fs vs first.keeps.items first.masks.items) ++ l) two.lines_are
-          ∙ (sym (flat_map-append line_text (entries_of fs vs first.keeps.items first.masks.items) (entries_of gs ws more.keeps.items more.masks.items))
-          ∙ ap lines_text whole)));
+          ∙ (ap (λ l. lines_text ps.version (entries_of fs vs first.keeps.items first.masks.items) ++ l) two.lines_are
+          ∙ (sym (flat_map-append (line_text ps.version) (entries_of fs vs first.keeps.items first.masks.items) (entries_of gs ws more.keeps.items more.masks.items))
+          ∙ ap (lines_text ps.version) whole)));
     }
 
 -- a list up to one index, and on up to another

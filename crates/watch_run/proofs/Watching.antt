@@ -158,7 +158,7 @@ first_of_all ps vl_table before cut capture ledger first packets lines =
           (capture_longer ps vl_table cut rest.0 before.capture.contents capture.contents packets),
       some_longer before.ledger.contents ledger.contents (lines_by ps vl_table frames) (rest_text vl_table (length ps.filters) (entries_by ps vl_table frames) a b)
           (ledger_by ps vl_table frames a b) all
-          (sym (append_assoc ledger_head (lines_text (entries_by ps vl_table frames)) (rest_text vl_table (length ps.filters) (entries_by ps vl_table frames) a b))),
+          (sym (append_assoc (ledger_head ps.version) (lines_text ps.version (entries_by ps vl_table frames)) (rest_text vl_table (length ps.filters) (entries_by ps vl_table frames) a b))),
     ))
 
 pub none_first : (late : ℕ) (a b : SourceView) → IsFirst late a b []

@@ -68,11 +68,11 @@ entries_more ps vl_table fs gs said e =
     (verdicts_length vl_table fs) (length-map fs (keep_by ps.filters)) (length-map fs (mask_by ps.filters))
 
 pub lines_more : (ps : Making) (vl_table : VlTable) (fs gs : List Frame) (more : List Entry) →
-    entries_by ps vl_table (fs ++ gs) ≡ entries_by ps vl_table fs ++ more → lines_by ps vl_table (fs ++ gs) ≡ lines_by ps vl_table fs ++ lines_text more
+    entries_by ps vl_table (fs ++ gs) ≡ entries_by ps vl_table fs ++ more → lines_by ps vl_table (fs ++ gs) ≡ lines_by ps vl_table fs ++ lines_text ps.version more
 lines_more ps vl_table fs gs more e =
-    ap (λ (es : List Entry). ledger_head ++ lines_text es) e
-    ∙ ap (λ (l : List ℕ). ledger_head ++ l) (flat_map-append line_text (entries_by ps vl_table fs) more)
-    ∙ sym (append_assoc ledger_head (lines_text (entries_by ps vl_table fs)) (lines_text more))
+    ap (λ (es : List Entry). ledger_head ps.version ++ lines_text ps.version es) e
+    ∙ ap (λ (l : List ℕ). ledger_head ps.version ++ l) (flat_map-append (line_text ps.version) (entries_by ps vl_table fs) more)
+    ∙ sym (append_assoc (ledger_head ps.version) (lines_text ps.version (entries_by ps vl_table fs)) (lines_text ps.version more))
 
 -- ---- the packets
 
@@ -133,7 +133,7 @@ pub lines_some : (ps : Making) (vl_table : VlTable) (fs gs : List Frame) (a b : 
     AppendsSome a b (lines_by ps vl_table (fs ++ gs))
 lines_some ps vl_table fs gs a b appended =
     let s = entries_some ps vl_table fs gs in
-    some_of a b (lines_by ps vl_table fs) (lines_text s.0) (lines_by ps vl_table (fs ++ gs)) appended (lines_more ps vl_table fs gs s.0 s.1)
+    some_of a b (lines_by ps vl_table fs) (lines_text ps.version s.0) (lines_by ps vl_table (fs ++ gs)) appended (lines_more ps vl_table fs gs s.0 s.1)
 
 pub capture_all : (ps : Making) (vl_table : VlTable) (fs : List Frame) (a b : Option (List ℕ)) → Appends a b (capture_by ps vl_table fs) →
     AppendsSome a b (capture_by ps vl_table fs)
@@ -162,7 +162,7 @@ pub lines_longer : (ps : Making) (vl_table : VlTable) (fs gs : List Frame) (a b 
     AppendsSome a b (lines_by ps vl_table (fs ++ gs))
 lines_longer ps vl_table fs gs a b some =
     let s = entries_some ps vl_table fs gs in
-    some_longer a b (lines_by ps vl_table fs) (lines_text s.0) (lines_by ps vl_table (fs ++ gs)) some (lines_more ps vl_table fs gs s.0 s.1)
+    some_longer a b (lines_by ps vl_table fs) (lines_text ps.version s.0) (lines_by ps vl_table (fs ++ gs)) some (lines_more ps vl_table fs gs s.0 s.1)
 
 -- ---- whole packets
 

@@ -26,7 +26,7 @@ pub record AreEntries (ps : Making) (frames : List Frame) (verdicts : List Judge
   pub keeps_are : entries.keeps.items ≡ map (keep_by ps.filters) frames
   pub masks_are : entries.masks.items ≡ map (mask_by ps.filters) frames
   pub packets_are : entries.packets.items ≡ packets_of ps.format (entries_of frames verdicts entries.keeps.items entries.masks.items)
-  pub lines_are : entries.lines.items ≡ lines_text (entries_of frames verdicts entries.keeps.items entries.masks.items)
+  pub lines_are : entries.lines.items ≡ lines_text ps.version (entries_of frames verdicts entries.keeps.items entries.masks.items)
 
 -- the first ones, and then more
 pub record AreJoined (first more both : Entries) : Type 0 where

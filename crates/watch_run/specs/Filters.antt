@@ -1,4 +1,4 @@
--- The making of a run, from its frames: up to eight filters (this project's profile), and the format of the capture.
+-- The making of a run, from its frames: up to eight filters (this project's profile), the format of the capture and the ledger's version.
 use Rattle.std.specs.Prelude.{ℕ, min, List, [], ◌++◌, length, map, flat_map, Option, Some, None, ◌==◌, if◌then◌else◌}
 use Rattle.std.specs.Option.{option_map_or}
 use Rattle.afdx_frame.specs.Frame.{Frame}
@@ -13,18 +13,21 @@ use Rattle.ledger_text.specs.FrameText.{shown}
 use Rattle.pcap_io.specs.declared.recording.Ending.{Ending}
 use Rattle.watch_run.specs.declared.plan.Plan.{Plan}
 use Rattle.verdict_ledger.specs.Text.{ledger_head, ledger_text, lines_text}
+use Rattle.verdict_ledger.specs.declared.version.LedgerVersion.{LedgerVersion}
+use Rattle.verdict_ledger.specs.declared.version.LedgerVersion.TheVariants.{Two}
 
--- the filters, and the format of the capture
+-- the filters, the format of the capture, and the version of the ledger
 pub record Making : Type 0 where
   pub filters : List (List Packed)
   pub format : Format
+  pub version : LedgerVersion
 
 abbrev pub making_of : Plan → Making
-making_of plan = record { filters = plan.programs.now; format = format_of plan.format }
+making_of plan = record { filters = plan.programs.now; format = format_of plan.format; version = plan.version }
 
--- a pcap file of what these filters accept
+-- a pcap file of what these filters accept, and a ledger of version 2
 abbrev pub pcap_of : List (List Packed) → Making
-pcap_of filters = record { filters = filters; format = Pcap }
+pcap_of filters = record { filters = filters; format = Pcap; version = Two }
 
 -- how many bytes are kept of a frame; a rejected frame isn't kept
 abbrev pub keep_of : ℕ → Frame → Option ℕ
@@ -41,7 +44,7 @@ entries_by ps vl_table frames = entries_of frames (verdicts vl_table frames) (ma
 
 -- the packet of a frame in the capture; a rejected frame has none
 abbrev pub entry_packet : Format → Entry → List ℕ
-entry_packet format e = option_map_or (λ keep. packet_by format e.frame keep (Some (shown e))) e.keep []
+entry_packet format e = option_map_or (λ keep. packet_by format e.frame keep (Some (shown Two e))) e.keep []
 
 abbrev pub packets_of : Format → List Entry → List ℕ
 packets_of format entries = flat_map (entry_packet format) entries
@@ -58,8 +61,8 @@ pcap_by filters frames = capture_header ++ flat_map (λ f. option_map_or (packet
 
 -- of frames the ledger's first line and their lines
 abbrev pub lines_by : Making → VlTable → List Frame → List ℕ
-lines_by ps vl_table frames = ledger_head ++ lines_text (entries_by ps vl_table frames)
+lines_by ps vl_table frames = ledger_head ps.version ++ lines_text ps.version (entries_by ps vl_table frames)
 
 -- the whole ledger of frames
 abbrev pub ledger_by : Making → VlTable → List Frame → Ending → Ending → List ℕ
-ledger_by ps vl_table frames a b = ledger_text vl_table (length ps.filters) (entries_by ps vl_table frames) a b
+ledger_by ps vl_table frames a b = ledger_text ps.version vl_table (length ps.filters) (entries_by ps vl_table frames) a b

@@ -1,4 +1,4 @@
--- A ledger that is written is read back whole (this project's format, version 2).
+-- A ledger that is written is read back whole (this project's format).
 use Rattle.std.specs.Prelude.{◌≡◌, ℕ, ◌^◌, ◌<◌, IsTrue, List, [], ◌∷◌, ◌++◌, length, map, take, Option, Some, IfSome}
 use Rattle.std.specs.List.{AllByRecursion}
 use Rattle.afdx_frame.specs.Frame.{Frame, IsFrame}
@@ -21,6 +21,7 @@ use Rattle.pcap_io.specs.declared.recording.Ending.{Ending}
 use Rattle.verdict_ledger.specs.Entry.{Entry, entries_of}
 use Rattle.verdict_ledger.specs.Tally.{totals_of}
 use Rattle.verdict_ledger.specs.Text.{ledger_text}
+use Rattle.verdict_ledger.specs.declared.version.LedgerVersion.{LedgerVersion}
 use Rattle.vl_config.specs.Document.{VlTable}
 use Rattle.vl_config.specs.Link.{VirtualLink, is_name}
 use Rattle.vl_judge.specs.Verdicts.{verdicts}
@@ -33,8 +34,8 @@ pub record IsNamed (link : VirtualLink) : Type 0 where
   pub name : IsTrue (is_name link.name)
 
 -- The line of each entry reads as what it shows, each link has a name, and no count has more than 64 bits.
-pub record AreWritable (links : List VirtualLink) (entries : List Entry) (a b : Ending) : Type 0 where
-  pub shown : AllByRecursion (λ e. IsFrameLine (shown e)) entries
+pub record AreWritable (version : LedgerVersion) (links : List VirtualLink) (entries : List Entry) (a b : Ending) : Type 0 where
+  pub shown : AllByRecursion (λ e. IsFrameLine version (shown version e)) entries
   pub named : AllByRecursion IsNamed links
   pub few : length entries < 2 ^ 64
   pub few_a : frames_before a < 2 ^ 64
@@ -50,19 +51,21 @@ counts_lines links filters =
     ++ lines.Counts counts.Tap ∷ lines.Counts counts.Tap ∷ lines.Counts counts.Total ∷ [])
 
 -- the head, what the line of each frame shows, and the lines of counts
-abbrev pub written_lines : VlTable → ℕ → List Entry → List LedgerLine
-written_lines vl_table filters entries =
-    lines.Head ∷ (map (λ e. lines.Frame (shown e)) entries ++ counts_lines vl_table.links (take filters (totals_of entries).filters))
+abbrev pub written_lines : LedgerVersion → VlTable → ℕ → List Entry → List LedgerLine
+written_lines version vl_table filters entries =
+    lines.Head version ∷ (map (λ e. lines.Frame (shown version e)) entries ++ counts_lines vl_table.links (take filters (totals_of entries).filters))
 
 -- A written ledger is lines that say this, one after another, and nothing more.
 abbrev pub WrittenLedgerIsRead : Type 0
-WrittenLedgerIsRead = (vl_table : VlTable) (filters : ℕ) (entries : List Entry) (a b : Ending) → AreWritable vl_table.links entries a b
-    → (rs : List ReadLine) × (map (λ r. r.line) rs ≡ written_lines vl_table filters entries)
-    × ReadsLines stages.Head (Some (ledger_text vl_table filters entries a b)) rs (stages.Counts counts.Total) (Some [])
+WrittenLedgerIsRead = (version : LedgerVersion) (vl_table : VlTable) (filters : ℕ) (entries : List Entry) (a b : Ending)
+    → AreWritable version vl_table.links entries a b
+    → (rs : List ReadLine) × (map (λ r. r.line) rs ≡ written_lines version vl_table filters entries)
+    × ReadsLines stages.Head (Some (ledger_text version vl_table filters entries a b)) rs (stages.Counts counts.Total) (Some [])
 
--- a frame as a recording holds it
+-- a frame as a recording holds it, which gives its length on the wire 32 bits
 pub record IsHeld (f : Frame) : Type 0 where
   pub frame : IsFrame f
+  pub whole : f.whole < 2 ^ 32
   pub bytes : IsBytes f.bytes
 
 -- The things that a run puts beside a verdict: the frame, and bytes kept of it where its mask names a filter.
@@ -73,9 +76,9 @@ pub record IsKept (e : Entry) : Type 0 where
 
 -- The lines of frames with their verdicts read as what they show.
 abbrev pub VerdictsAreShown : Type 0
-VerdictsAreShown = (vl_table : VlTable) (frames : List Frame) (keeps : List (Option ℕ)) (masks : List ℕ)
+VerdictsAreShown = (version : LedgerVersion) (vl_table : VlTable) (frames : List Frame) (keeps : List (Option ℕ)) (masks : List ℕ)
     → AllByRecursion IsKept (entries_of frames (verdicts vl_table frames) keeps masks)
-    → AllByRecursion (λ e. IsFrameLine (shown e)) (entries_of frames (verdicts vl_table frames) keeps masks)
+    → AllByRecursion (λ e. IsFrameLine version (shown version e)) (entries_of frames (verdicts vl_table frames) keeps masks)
 
 -- ---- and nothing else is read of it
 

@@ -1,4 +1,4 @@
--- The ledger of a run is read back whole (this project's format, version 2).
+-- The ledger of a run is read back whole (this project's format).
 use Rattle.std.specs.Prelude.{◌≡◌, ◌^◌, ◌<◌, ◌≤◌, List, [], length, map, Some}
 use Rattle.std.specs.List.{AllByRecursion}
 use Rattle.afdx_frame.specs.Frame.{Frame}
@@ -23,5 +23,5 @@ pub record IsRun (ps : Making) (vl_table : VlTable) (frames : List Frame) (a b :
 -- Its ledger is lines that say what became of each frame, and the counts, and nothing more.
 abbrev pub RunLedgerIsRead : Type 0
 RunLedgerIsRead = (ps : Making) (vl_table : VlTable) (frames : List Frame) (a b : Ending) → IsRun ps vl_table frames a b
-    → (rs : List ReadLine) × (map (λ r. r.line) rs ≡ written_lines vl_table (length ps.filters) (entries_by ps vl_table frames))
+    → (rs : List ReadLine) × (map (λ r. r.line) rs ≡ written_lines ps.version vl_table (length ps.filters) (entries_by ps vl_table frames))
     × ReadsLines stages.Head (Some (ledger_by ps vl_table frames a b)) rs (stages.Counts counts.Total) (Some [])

@@ -140,7 +140,14 @@ impl Entries {
     {
         self.clear();
         self.add_frames(plan, frames, verdicts)?;
-        append_lines(&mut self.lines, frames, verdicts, &self.keeps, &self.masks)
+        append_lines(
+            &mut self.lines,
+            plan.version,
+            frames,
+            verdicts,
+            &self.keeps,
+            &self.masks,
+        )
     }
 
     /// Adds those of further frames.

@@ -274,7 +274,8 @@ impl<W: OutSink, L: OutSink> Outputs<W, L> {
                 });
             }
         };
-        match Ledger::begin(alloc, config, plan.programs.len() as u32, ledger) {
+        let filters = plan.programs.len() as u32;
+        match Ledger::begin(alloc, config, filters, plan.version, ledger) {
             Ok(ledger) => Ok(Outputs {
                 lanes,
                 capture,

@@ -3,6 +3,7 @@ use command_line::FileOption;
 use packet_format::PacketFormat;
 use pcapng::Interfaces;
 use tap_inputs::{Blocks, Cause, Outcome, OutputStream, SharedBlocks};
+use verdict_ledger::LedgerVersion;
 use vl_config::Config;
 
 /// The writer that hands an output its bytes in blocks. Are they to be hashed?
@@ -44,6 +45,15 @@ pub fn format_of(
         PacketFormat::Pcapng { interfaces, names }
     } else {
         PacketFormat::Pcap
+    }
+}
+
+/// The version of a ledger, with the lengths of frames or without them.
+pub fn version_of(details: bool) -> LedgerVersion {
+    if details {
+        LedgerVersion::Three
+    } else {
+        LedgerVersion::Two
     }
 }
 

@@ -85,14 +85,14 @@ few_entries (f ∷ frames) (j ∷ said) (k ∷ keeps) [] = omega arith
 few_entries (f ∷ frames) (j ∷ said) (k ∷ keeps) (m ∷ masks) = omega (arith, few_entries frames said keeps masks)
 
 pub run_read : (ps : Making) (vl_table : VlTable) (frames : List Frame) (a b : Ending) → IsRun ps vl_table frames a b
-    → (rs : List ReadLine) × (map (λ r. r.line) rs ≡ written_lines vl_table (length ps.filters) (entries_by ps vl_table frames))
+    → (rs : List ReadLine) × (map (λ r. r.line) rs ≡ written_lines ps.version vl_table (length ps.filters) (entries_by ps vl_table frames))
     × ReadsLines stages.Head (Some (ledger_by ps vl_table frames a b)) rs (stages.Counts counts.Total) (Some [])
 run_read ps vl_table frames a b h =
     let keeps = map (keep_by ps.filters) frames in
     let masks = map (mask_by ps.filters) frames in
     let said = verdicts vl_table frames in
-    written vl_table (length ps.filters) (entries_by ps vl_table frames) a b (record {
-      shown = shown_lines vl_table frames keeps masks (all_kept ps.filters frames said h.filters h.held);
+    written ps.version vl_table (length ps.filters) (entries_by ps vl_table frames) a b (record {
+      shown = shown_lines ps.version vl_table frames keeps masks (all_kept ps.filters frames said h.filters h.held);
       named = h.named;
       few = omega (arith, few_entries frames said keeps masks, h.few);
       few_a = h.few_a;

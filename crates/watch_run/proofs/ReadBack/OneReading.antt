@@ -13,7 +13,7 @@ use Rattle.ledger_text.specs.FrameText.{IsFrameText, fields_before, frame_fields
 use Rattle.ledger_text.specs.Ledger.{ReadLine, ReadsLines}
 use Rattle.ledger_text.specs.Lines.{IsNextLine}
 use Rattle.ledger_text.specs.Newlines.{NoNewline, is_newline}
-use Rattle.ledger_text.specs.Order.{IsCounts, IsLineAt, IsLineFaultAt, counts_word}
+use Rattle.ledger_text.specs.Order.{IsCounts, IsLineAt, IsLineFaultAt, counts_word, head_line}
 use Rattle.ledger_text.specs.Places.{has_total, stage_after}
 use Rattle.ledger_text.specs.Reader.{IsBadLine, IsFound, Reading, last_of}
 use Rattle.ledger_text.specs.declared.bounds.TheConstants.{BLOCK_LEN, MAX_LINES}
@@ -28,6 +28,8 @@ use Rattle.ledger_text.specs.declared.order.LedgerStage.{LedgerStage}
 use Rattle.ledger_text.specs.declared.order.LedgerStage.TheVariants as stages
 use Rattle.ledger_text.specs.declared.reader.FoundLine.TheVariants as found
 use Rattle.ledger_text.specs.declared.reader.LedgerStop.{LedgerStop}
+use Rattle.verdict_ledger.specs.declared.version.LedgerVersion.{LedgerVersion}
+use Rattle.verdict_ledger.specs.declared.version.LedgerVersion.TheVariants.{Two, Three}
 
 -- ---- the text of a line
 
@@ -78,25 +80,30 @@ no_digits counts.Filter h = absurd (omega (arith, h.0))
 no_digits counts.Tap h = absurd (omega (arith, h.0))
 no_digits counts.Total h = absurd (omega (arith, h.0))
 
-frame_is_no_counts : (text : List ℕ) (v : FrameLine) (kind : Counts) → IsFrameText text v → IsCounts text kind → ⊥
-frame_is_no_counts text v kind is counted =
+frame_is_no_counts : (version : LedgerVersion) (text : List ℕ) (v : FrameLine) (kind : Counts) → IsFrameText version text v → IsCounts text kind → ⊥
+frame_is_no_counts version text v kind is counted =
     let first : decimal v.stamp.0 ≡ counts_word kind = sym (ap first_field is.fields) ∙ sym counted in
     no_digits kind (subst (AllDigits 10) first (digits_decimal own v.stamp.0 (omega (arith, is.values.stamp))))
 
-one_frame : (text : List ℕ) (v w : FrameLine) → IsFrameText text v → IsFrameText text w → v ≡ w
-one_frame text v w p q = one_line v w p.values q.values (sym p.fields ∙ q.fields)
+one_version : (m n : LedgerVersion) → head_line m ≡ head_line n → m ≡ n
+one_version Two Two e = refl
+one_version Three Three e = refl
+one_version _ _ e = absurd (omega (arith, ap (λ (l : List ℕ). get_or l 12 0) e))
+
+one_frame : (version : LedgerVersion) (text : List ℕ) (v w : FrameLine) → IsFrameText version text v → IsFrameText version text w → v ≡ w
+one_frame version text v w p q = one_line version v w p.values q.values (sym p.fields ∙ q.fields)
 
 one_said : (stage : LedgerStage) (text : List ℕ) (l k : LedgerLine) → IsLineAt stage text l → IsLineAt stage text k → l ≡ k
-one_said stages.Head text lines.Head lines.Head p q = refl
-one_said stages.Frames text (lines.Frame v) (lines.Frame w) p q = ap lines.Frame (one_frame text v w p q)
-one_said stages.Frames text (lines.Frame v) (lines.Counts k) p q = absurd (frame_is_no_counts text v k p q)
-one_said stages.Frames text (lines.Counts j) (lines.Frame w) p q = absurd (frame_is_no_counts text w j q p)
-one_said stages.Frames text (lines.Counts j) (lines.Counts k) p q = ap lines.Counts (one_kind j k (p ∙ sym q))
+one_said stages.Head text (lines.Head m) (lines.Head n) p q = ap lines.Head (one_version m n (sym p ∙ q))
+one_said (stages.Frames version) text (lines.Frame v) (lines.Frame w) p q = ap lines.Frame (one_frame version text v w p q)
+one_said (stages.Frames version) text (lines.Frame v) (lines.Counts k) p q = absurd (frame_is_no_counts version text v k p q)
+one_said (stages.Frames version) text (lines.Counts j) (lines.Frame w) p q = absurd (frame_is_no_counts version text w j q p)
+one_said (stages.Frames version) text (lines.Counts j) (lines.Counts k) p q = ap lines.Counts (one_kind j k (p ∙ sym q))
 one_said (stages.Counts last) text (lines.Counts j) (lines.Counts k) p q = ap lines.Counts (one_kind j k (p.0 ∙ sym q.0))
-one_said stages.Head text lines.Head _ p q = absurd q
+one_said stages.Head text (lines.Head m) _ p q = absurd q
 one_said stages.Head text _ _ p q = absurd p
-one_said stages.Frames text lines.Head _ p q = absurd p
-one_said stages.Frames text _ lines.Head p q = absurd q
+one_said (stages.Frames version) text (lines.Head m) _ p q = absurd p
+one_said (stages.Frames version) text _ (lines.Head m) p q = absurd q
 one_said (stages.Counts last) text (lines.Counts j) _ p q = absurd q
 one_said (stages.Counts last) text _ _ p q = absurd p
 
@@ -137,15 +144,15 @@ agrees_itself (suc n) [] = refl
 agrees_itself (suc n) (field ∷ fields) = (refl, agrees_itself n fields)
 
 not_wrong : (stage : LedgerStage) (line : List ℕ) (said : LedgerLine) (fault : LineFault) → IsLineAt stage line said → IsLineFaultAt stage line fault → ⊥
-not_wrong stages.Head line lines.Head faults.Head p q = q p
-not_wrong stages.Frames line (lines.Frame v) (faults.Frame fault) p q =
-    q.0.departs v p.values (subst (λ (fields : List (List ℕ)). Agrees (suc (fields_before fault)) (frame_fields v) fields) (sym p.fields) (agrees_itself (suc (fields_before fault)) (frame_fields v)))
-not_wrong stages.Frames line (lines.Counts kind) (faults.Frame fault) p q = q.1 kind p
+not_wrong stages.Head line (lines.Head version) faults.Head p q = q version p
+not_wrong (stages.Frames version) line (lines.Frame v) (faults.Frame fault) p q =
+    q.0.departs v p.values (subst (λ (fields : List (List ℕ)). Agrees (suc (fields_before version fault)) (frame_fields v) fields) (sym p.fields) (agrees_itself (suc (fields_before version fault)) (frame_fields v)))
+not_wrong (stages.Frames version) line (lines.Counts kind) (faults.Frame fault) p q = q.1 kind p
 not_wrong (stages.Counts last) line (lines.Counts kind) faults.Order p q = q kind p.0 p.1
-not_wrong stages.Head line lines.Head _ p q = absurd q
+not_wrong stages.Head line (lines.Head version) _ p q = absurd q
 not_wrong stages.Head line _ _ p q = absurd p
-not_wrong stages.Frames line lines.Head _ p q = absurd p
-not_wrong stages.Frames line _ _ p q = absurd q
+not_wrong (stages.Frames version) line (lines.Head m) _ p q = absurd p
+not_wrong (stages.Frames version) line _ _ p q = absurd q
 not_wrong (stages.Counts last) line (lines.Counts kind) _ p q = absurd q
 not_wrong (stages.Counts last) line _ _ p q = absurd p
 
@@ -163,7 +170,7 @@ ends_before (x ∷ line) after (y ∷ text) rest h e =
 
 total_is_last : (stage : LedgerStage) (text : List ℕ) (line : LedgerLine) → has_total stage ≡ true → IsLineAt stage text line → ⊥
 total_is_last stages.Head text line h p = false≢true h
-total_is_last stages.Frames text line h p = false≢true h
+total_is_last (stages.Frames version) text line h p = false≢true h
 total_is_last (stages.Counts counts.Link) text line h p = false≢true h
 total_is_last (stages.Counts counts.Filter) text line h p = false≢true h
 total_is_last (stages.Counts counts.Tap) text line h p = false≢true h

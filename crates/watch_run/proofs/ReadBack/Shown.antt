@@ -8,13 +8,15 @@ use Rattle.afdx_frame.specs.Number.{big_endian, number_at}
 use Rattle.afdx_frame.specs.View.{link_of, sequence_of}
 use Rattle.integrity.specs.declared.verdict.Integrity.{Integrity}
 use Rattle.integrity.specs.declared.verdict.Integrity.TheVariants.{First, Reset, Next, Skip, Off, Out}
-use Rattle.ledger_text.specs.FrameText.{IsFrameLine, link_fits, shown}
+use Rattle.ledger_text.specs.FrameText.{IsFrameLine, has_length, length_shown, link_fits, shown}
 use Rattle.ledger_text.specs.Reads.{Below, Optional}
 use Rattle.pcap_io.specs.Bytes.{IsBytes}
 use Rattle.policing.specs.declared.verdict.Policing.{Policing}
 use Rattle.policing.specs.declared.verdict.Policing.TheVariants.{Within, Excess}
 use Rattle.redundancy.specs.declared.verdict.Redundancy.{Redundancy}
 use Rattle.verdict_ledger.specs.Entry.{Entry, entries_of}
+use Rattle.verdict_ledger.specs.declared.version.LedgerVersion.{LedgerVersion}
+use Rattle.verdict_ledger.specs.declared.version.LedgerVersion.TheVariants.{Two, Three}
 use Rattle.vl_config.specs.Class.{class_by, class_of, is_addressed, link_of_frame}
 use Rattle.vl_config.specs.Document.{VlTable}
 use Rattle.vl_config.specs.Link.{VirtualLink}
@@ -155,8 +157,13 @@ same_frames vl_table earlier (f ∷ frames) =
 
 -- ---- the lines
 
-shown_line : (vl_table : VlTable) (e : Entry) → e.verdict.class ≡ class_of vl_table e.frame → IsReached e.verdict → IsKept e → IsFrameLine (shown e)
-shown_line vl_table e same is h =
+length_there : (version : LedgerVersion) (whole : ℕ) → whole < 2 ^ 32 → Optional (Below (2 ^ 32)) (has_length version) (length_shown version whole)
+length_there Two whole h = record { present = refl; fits = tt }
+length_there Three whole h = record { present = refl; fits = h }
+
+shown_line : (version : LedgerVersion) (vl_table : VlTable) (e : Entry) → e.verdict.class ≡ class_of vl_table e.frame → IsReached e.verdict → IsKept e
+    → IsFrameLine version (shown version e)
+shown_line version vl_table e same is h =
     let long = λ (addressed : is_addressed e.verdict.class ≡ true). long_enough vl_table e.frame (sym (ap is_addressed same) ∙ addressed) in
     record {
       stamp = omega (arith, h.held.frame.stamp_fits);
@@ -167,21 +174,22 @@ shown_line vl_table e same is h =
       reached = is;
       kept = h.kept;
       mask = h.mask;
+      length = length_there version e.frame.whole h.held.whole;
     }
 
-lines_of : (vl_table : VlTable) (js : List Judged) (keeps : List (Option ℕ)) (masks : List ℕ) → AllByRecursion (IsJudged vl_table) js
+lines_of : (version : LedgerVersion) (vl_table : VlTable) (js : List Judged) (keeps : List (Option ℕ)) (masks : List ℕ) → AllByRecursion (IsJudged vl_table) js
     → AllByRecursion IsKept (entries_of (map (λ x. x.frame) js) (map (λ x. x.verdict) js) keeps masks)
-    → AllByRecursion (λ e. IsFrameLine (shown e)) (entries_of (map (λ x. x.frame) js) (map (λ x. x.verdict) js) keeps masks)
-lines_of vl_table [] keeps masks all h = tt
-lines_of vl_table (j ∷ js) [] masks all h = tt
-lines_of vl_table (j ∷ js) (k ∷ keeps) [] all h = tt
-lines_of vl_table (j ∷ js) (k ∷ keeps) (m ∷ masks) all h = (shown_line vl_table _ all.0.0 all.0.1 h.0, lines_of vl_table js keeps masks all.1 h.1)
+    → AllByRecursion (λ e. IsFrameLine version (shown version e)) (entries_of (map (λ x. x.frame) js) (map (λ x. x.verdict) js) keeps masks)
+lines_of version vl_table [] keeps masks all h = tt
+lines_of version vl_table (j ∷ js) [] masks all h = tt
+lines_of version vl_table (j ∷ js) (k ∷ keeps) [] all h = tt
+lines_of version vl_table (j ∷ js) (k ∷ keeps) (m ∷ masks) all h = (shown_line version vl_table _ all.0.0 all.0.1 h.0, lines_of version vl_table js keeps masks all.1 h.1)
 
-pub shown_lines : (vl_table : VlTable) (frames : List Frame) (keeps : List (Option ℕ)) (masks : List ℕ)
+pub shown_lines : (version : LedgerVersion) (vl_table : VlTable) (frames : List Frame) (keeps : List (Option ℕ)) (masks : List ℕ)
     → AllByRecursion IsKept (entries_of frames (verdicts vl_table frames) keeps masks)
-    → AllByRecursion (λ e. IsFrameLine (shown e)) (entries_of frames (verdicts vl_table frames) keeps masks)
-shown_lines vl_table frames keeps masks =
+    → AllByRecursion (λ e. IsFrameLine version (shown version e)) (entries_of frames (verdicts vl_table frames) keeps masks)
+shown_lines version vl_table frames keeps masks =
     let said = verdicts vl_table frames in
-    subst (λ (fs : List Frame). AllByRecursion IsKept (entries_of fs said keeps masks) → AllByRecursion (λ e. IsFrameLine (shown e)) (entries_of fs said keeps masks))
+    subst (λ (fs : List Frame). AllByRecursion IsKept (entries_of fs said keeps masks) → AllByRecursion (λ e. IsFrameLine version (shown version e)) (entries_of fs said keeps masks))
     (same_frames vl_table [] frames)
-    (lines_of vl_table (judged_frames vl_table frames) keeps masks (all_judged vl_table [] frames tt))
+    (lines_of version vl_table (judged_frames vl_table frames) keeps masks (all_judged vl_table [] frames tt))

@@ -17,7 +17,7 @@ use Rattle.integrity.specs.declared.verdict.Integrity.{Integrity}
 use Rattle.integrity.specs.declared.verdict.Integrity.TheVariants.{First, Reset, Next, Skip, Off, Out}
 use Rattle.ledger_text.proofs.Decimals.{both_true, first_true, own, second_true}
 use Rattle.ledger_text.proofs.Texts.{all_clear}
-use Rattle.ledger_text.specs.FrameText.{IsFrameLine, frame_fields, link_fits, link_text}
+use Rattle.ledger_text.specs.FrameText.{IsFrameLine, frame_fields, length_fields, link_fits, link_text}
 use Rattle.ledger_text.specs.Newlines.{NoNewline, is_newline}
 use Rattle.ledger_text.specs.Reads.{Below, dash_or}
 use Rattle.ledger_text.specs.declared.frame.FrameLine.{FrameLine}
@@ -28,6 +28,7 @@ use Rattle.redundancy.specs.Word.{redundancy_word}
 use Rattle.redundancy.specs.declared.verdict.Redundancy.{Redundancy}
 use Rattle.redundancy.specs.declared.verdict.Redundancy.TheVariants.{Deliver, Copy, Both}
 use Rattle.verdict_ledger.specs.Text.{mask_text}
+use Rattle.verdict_ledger.specs.declared.version.LedgerVersion.{LedgerVersion}
 use Rattle.vl_config.specs.Class.{class_word}
 use Rattle.vl_config.specs.declared.class.Class.{Class}
 use Rattle.vl_config.specs.declared.class.Class.TheVariants.{Cut, Runt, Oversize, Foreign, Unconfigured, TooLong, Regular}
@@ -152,8 +153,16 @@ clear_plain (x ∷ xs) h =
 mask_part : (m : ℕ) → list_all (λ b. nat_lt 32 b) (mask_text m) ≡ true → IsPart 20 (mask_text m)
 mask_part m clear = word_part 20 (mask_text m) (clear_plain (mask_text m) clear) refl
 
-pub frame_part : (v : FrameLine) → IsFrameLine v → IsPart 231 (join_with_byte 32 (frame_fields v))
-frame_part v z =
+length_part : (o : Option ℕ) → IfSome o (Below (2 ^ 32)) → AreParts (length_fields o)
+length_part None h = tt
+length_part (Some n) h = (number_part n (omega arith), tt)
+
+one_length : (o : Option ℕ) → length (length_fields o) ≤ 1
+one_length None = omega arith
+one_length (Some n) = omega arith
+
+pub frame_part : (version : LedgerVersion) (v : FrameLine) → IsFrameLine version v → IsPart 252 (join_with_byte 32 (frame_fields v))
+frame_part version v z =
     let fields : AreParts (frame_fields v) = (
       number_part v.stamp.0 (omega (arith, z.stamp)),
       (
@@ -172,7 +181,7 @@ frame_part v z =
                     integrity_part v.verdict.integrity,
                     (
                       redundancy_part v.verdict.redundancy,
-                      (optional_part v.kept (2 ^ 32) (omega arith) z.kept, (mask_part v.mask (all_clear v z).1.1.1.1.1.1.1.1.1.1.0, tt)),
+                      (optional_part v.kept (2 ^ 32) (omega arith) z.kept, (mask_part v.mask (all_clear version v z).1.1.1.1.1.1.1.1.1.1.0, length_part v.length z.length.fits)),
                     ),
                   ),
                 ),
@@ -182,4 +191,5 @@ frame_part v z =
         ),
       ),
     ) in
-    join_all (frame_fields v) fields
+    let line = join_all (frame_fields v) fields in
+    record { plain = line.plain; few = omega (arith, line.few, one_length v.length) }

@@ -4,7 +4,7 @@ use Rattle.std.proofs.lemmas.Bool.{false≢true}
 use Rattle.std.specs.List.{AllByRecursion, join_with_byte}
 use Rattle.afdx_frame.specs.declared.key.Network.TheVariants.{A, B}
 use Rattle.ledger_text.proofs.Texts.{entry_text, reads_back}
-use Rattle.ledger_text.specs.FrameText.{IsFrameLine, frame_fields, shown}
+use Rattle.ledger_text.specs.FrameText.{IsFrameLine, frame_fields, shown, version_of}
 use Rattle.ledger_text.specs.Ledger.{ReadLine, ReadsLines, TakesLine}
 use Rattle.ledger_text.specs.Order.{IsCounts, IsLineAt, head_line, may_follow}
 use Rattle.ledger_text.specs.Places.{stage_after}
@@ -18,6 +18,8 @@ use Rattle.ledger_text.specs.declared.order.LedgerStage.TheVariants as stages
 use Rattle.pcap_io.specs.declared.recording.Ending.{Ending}
 use Rattle.verdict_ledger.specs.Entry.{Entry}
 use Rattle.verdict_ledger.specs.Tally.{link_counts, totals_of}
+use Rattle.verdict_ledger.specs.declared.version.LedgerVersion.{LedgerVersion}
+use Rattle.verdict_ledger.specs.declared.version.LedgerVersion.TheVariants.{Two, Three}
 use Rattle.verdict_ledger.specs.Text.{end_text, filter_line, filter_lines, ledger_head, ledger_text, line_text, lines_text, link_line, link_lines, rest_text, tap_line, total_line}
 use Rattle.vl_config.specs.Document.{VlTable}
 use Rattle.vl_config.specs.Link.{VirtualLink}
@@ -46,12 +48,12 @@ line_before stage text bytes rest line said is plain short stands (rs, same, rea
 -- a line of counts may stand there
 abbrev permits : LedgerStage → Counts → Bool
 permits stages.Head kind = false
-permits stages.Frames kind = true
+permits (stages.Frames version) kind = true
 permits (stages.Counts last) kind = may_follow last kind
 
 stands_there : (stage : LedgerStage) (kind : Counts) (text : List ℕ) → permits stage kind ≡ true → IsCounts text kind → IsLineAt stage text (lines.Counts kind)
 stands_there stages.Head kind text h is = absurd (false≢true h)
-stands_there stages.Frames kind text h is = is
+stands_there (stages.Frames version) kind text h is = is
 stands_there (stages.Counts last) kind text h is = (is, h)
 
 counts_before : (stage : LedgerStage) (kind : Counts) (bytes rest : List ℕ) (said : List LedgerLine) → permits stage kind ≡ true → IsCountsLine kind bytes
@@ -80,7 +82,7 @@ taps_and_total stage entries a b may few few_a few_b =
 
 taps_follow : (stage : LedgerStage) → permits stage counts.Filter ≡ true → permits stage counts.Tap ≡ true
 taps_follow stages.Head h = absurd (false≢true h)
-taps_follow stages.Frames h = refl
+taps_follow (stages.Frames version) h = refl
 taps_follow (stages.Counts counts.Link) h = refl
 taps_follow (stages.Counts counts.Filter) h = refl
 taps_follow (stages.Counts counts.Tap) h = refl
@@ -88,7 +90,7 @@ taps_follow (stages.Counts counts.Total) h = absurd (false≢true h)
 
 filters_follow : (stage : LedgerStage) → permits stage counts.Link ≡ true → permits stage counts.Filter ≡ true
 filters_follow stages.Head h = absurd (false≢true h)
-filters_follow stages.Frames h = refl
+filters_follow (stages.Frames version) h = refl
 filters_follow (stages.Counts counts.Link) h = refl
 filters_follow (stages.Counts counts.Filter) h = absurd (false≢true h)
 filters_follow (stages.Counts counts.Tap) h = absurd (false≢true h)
@@ -119,28 +121,40 @@ links_before stage entries (link ∷ links) rest said may few named ends =
 
 -- ---- the frames before them, and the head
 
-frame_lines_before : (entries : List Entry) (rest : List ℕ) (said : List LedgerLine) → AllByRecursion (λ e. IsFrameLine (shown e)) entries → Whole stages.Frames rest said
-    → Whole stages.Frames (lines_text entries ++ rest) (map (λ e. lines.Frame (shown e)) entries ++ said)
-frame_lines_before [] rest said h whole = whole
-frame_lines_before (e ∷ entries) rest said h whole =
-    let text = join_with_byte 32 (frame_fields (shown e)) in
-    let part = frame_part (shown e) h.0 in
-    let others : Whole stages.Frames (lines_text entries ++ rest) (map (λ e. lines.Frame (shown e)) entries ++ said) = frame_lines_before entries rest said h.1 whole in
-    subst (λ (l : List ℕ). Whole stages.Frames l (lines.Frame (shown e) ∷ (map (λ e. lines.Frame (shown e)) entries ++ said)))
-    (sym (append_assoc (line_text e) (lines_text entries) rest))
-    (line_before stages.Frames text (line_text e) (lines_text entries ++ rest) (lines.Frame (shown e)) _ (entry_text e) part.plain (omega (arith, part.few))
-    (reads_back e text h.0 (entry_text e)) others)
+same_version : (version : LedgerVersion) (e : Entry) → version_of (shown version e) ≡ version
+same_version Two e = refl
+same_version Three e = refl
 
-head_before : (rest : List ℕ) (said : List LedgerLine) → Whole stages.Frames rest said → Whole stages.Head (ledger_head ++ rest) (lines.Head ∷ said)
+frame_lines_before : (version : LedgerVersion) (entries : List Entry) (rest : List ℕ) (said : List LedgerLine)
+    → AllByRecursion (λ e. IsFrameLine version (shown version e)) entries → Whole (stages.Frames version) rest said
+    → Whole (stages.Frames version) (lines_text version entries ++ rest) (map (λ e. lines.Frame (shown version e)) entries ++ said)
+frame_lines_before version [] rest said h whole = whole
+frame_lines_before version (e ∷ entries) rest said h whole =
+    let stage = stages.Frames version in
+    let text = join_with_byte 32 (frame_fields (shown version e)) in
+    let part = frame_part version (shown version e) h.0 in
+    let others : Whole stage (lines_text version entries ++ rest) (map (λ e. lines.Frame (shown version e)) entries ++ said) =
+    frame_lines_before version entries rest said h.1 whole in
+    let after : Whole (stage_after (lines.Frame (shown version e))) (lines_text version entries ++ rest) (map (λ e. lines.Frame (shown version e)) entries ++ said) =
+    subst (λ (n : LedgerVersion). Whole (stages.Frames n) (lines_text version entries ++ rest) (map (λ e. lines.Frame (shown version e)) entries ++ said))
+    (sym (same_version version e)) others in
+    subst (λ (l : List ℕ). Whole stage l (lines.Frame (shown version e) ∷ (map (λ e. lines.Frame (shown version e)) entries ++ said)))
+    (sym (append_assoc (line_text version e) (lines_text version entries) rest))
+    (line_before stage text (line_text version e) (lines_text version entries ++ rest) (lines.Frame (shown version e)) _ (entry_text version e) part.plain
+    (omega (arith, part.few)) (reads_back version e text h.0 (entry_text version e)) after)
+
+head_before : (version : LedgerVersion) (rest : List ℕ) (said : List LedgerLine) → Whole (stages.Frames version) rest said
+    → Whole stages.Head (ledger_head version ++ rest) (lines.Head version ∷ said)
 unfolding ledger_head
-head_before rest said whole = line_before stages.Head head_line (head_line ++ 10 ∷ []) rest lines.Head said refl refl (omega arith) refl whole
+head_before Two rest said whole = line_before stages.Head (head_line Two) (head_line Two ++ 10 ∷ []) rest (lines.Head Two) said refl refl (omega arith) refl whole
+head_before Three rest said whole = line_before stages.Head (head_line Three) (head_line Three ++ 10 ∷ []) rest (lines.Head Three) said refl refl (omega arith) refl whole
 
-pub written : (vl_table : VlTable) (filters : ℕ) (entries : List Entry) (a b : Ending) → AreWritable vl_table.links entries a b
-    → Whole stages.Head (ledger_text vl_table filters entries a b) (written_lines vl_table filters entries)
-written vl_table filters entries a b h =
+pub written : (version : LedgerVersion) (vl_table : VlTable) (filters : ℕ) (entries : List Entry) (a b : Ending) → AreWritable version vl_table.links entries a b
+    → Whole stages.Head (ledger_text version vl_table filters entries a b) (written_lines version vl_table filters entries)
+written version vl_table filters entries a b h =
     let accepted = take filters (totals_of entries).filters in
     let ends = λ (stage : LedgerStage) (may : permits stage counts.Tap ≡ true). taps_and_total stage entries a b may h.few h.few_a h.few_b in
     let after_links = λ (stage : LedgerStage) (may : permits stage counts.Filter ≡ true).
     filters_before stage 0 accepted _ may (filters_few filters entries h.few) (omega (arith, filters_taken filters entries)) ends in
-    let after_frames = links_before stages.Frames entries vl_table.links (end_text (totals_of entries) filters a b) _ refl h.few h.named after_links in
-    head_before _ _ (frame_lines_before entries (rest_text vl_table filters entries a b) _ h.shown after_frames)
+    let after_frames = links_before (stages.Frames version) entries vl_table.links (end_text (totals_of entries) filters a b) _ refl h.few h.named after_links in
+    head_before version _ _ (frame_lines_before version entries (rest_text vl_table filters entries a b) _ h.shown after_frames)

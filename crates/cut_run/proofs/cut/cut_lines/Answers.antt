@@ -39,7 +39,7 @@ loop-line-preserved-in-Ok-Line-Head g c = record {
       let at = c.loop-line.invariant.cut format around before begun in
       let found = rw (c.in-Ok-Line-Head.field-0-is, c.in-Ok-Line-Head.field-0-0-is) at (c.in-Ok-Line-Head.ensures.found c.loop-line.invariant.sound) in
       other_cut g.L.TapSource g.S.TapSource g.T.TapSource g.W.OutSink format choice before at.0 at.1 at.2 at.3 at.4 c.loop-line.ledger c.advance.new.self
-      c.loop-line.taking lines.Head refl at.5 found (c.in-Ok-Line-Head.ensures.sound c.loop-line.invariant.sound));
+      c.loop-line.taking _ refl at.5 found (c.in-Ok-Line-Head.ensures.sound c.loop-line.invariant.sound));
   sound = c.in-Ok-Line-Head.ensures.sound c.loop-line.invariant.sound;
   going = c.loop-line.invariant.going;
 }

@@ -37,7 +37,7 @@ loop-line-preserved-in-Ok-Line-Head g c = record {
       (let at = c.loop-line.invariant.noted count before begun in
       let found = rw (c.in-Ok-Line-Head.field-0-is, c.in-Ok-Line-Head.field-0-0-is) at (c.in-Ok-Line-Head.ensures.found c.loop-line.invariant.sound) in
       other_noted g.L.TapSource c.args.selection.now count before at.0 c.loop-line.ledger c.advance.new.self c.loop-line.chooser c.loop-line.neighbours
-      lines.Head refl at.1 found (c.in-Ok-Line-Head.ensures.sound c.loop-line.invariant.sound));
+      _ refl at.1 found (c.in-Ok-Line-Head.ensures.sound c.loop-line.invariant.sound));
   sound = c.in-Ok-Line-Head.ensures.sound c.loop-line.invariant.sound;
 }
 

@@ -44,7 +44,7 @@ loop-line-preserved-in-Ok-Line-Head g c = record {
       let at = c.loop-line.invariant.printed around before begun in
       let found = rw (c.in-Ok-Line-Head.field-0-is, c.in-Ok-Line-Head.field-0-0-is) at (c.in-Ok-Line-Head.ensures.found c.loop-line.invariant.sound) in
       other_printed g.L.TapSource g.S.TapSource g.T.TapSource g.W.OutSink choice before at.0 at.1 c.loop-line.ledger c.advance.new.self
-      c.loop-line.printing lines.Head refl refl at.2 found (c.in-Ok-Line-Head.ensures.sound c.loop-line.invariant.sound));
+      c.loop-line.printing _ refl refl at.2 found (c.in-Ok-Line-Head.ensures.sound c.loop-line.invariant.sound));
   sound = c.in-Ok-Line-Head.ensures.sound c.loop-line.invariant.sound;
 }
 

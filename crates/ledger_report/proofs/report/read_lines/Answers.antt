@@ -35,8 +35,8 @@ loop-frame-preserved-in-Ok-Line-Head g c = record {
       let found = rw (c.in-Ok-Line-Head.field-0-is, c.in-Ok-Line-Head.field-0-0-is) at
       (c.in-Ok-Line-Head.ensures.found c.loop-frame.invariant.sound) in
       other_noted g.S.TapSource bytes failures c.args.config.now at.0 c.loop-frame.ledger c.advance.new.self reading.counts reading.frames reading.lines
-      at.1 lines.Head reading.lines refl found (c.in-Ok-Line-Head.ensures.sound c.loop-frame.invariant.sound) (tt, at.1.right.counts)
-      (counted_head _ reading.lines (lent_of c.advance.new.self) at.1.counted_are));
+      at.1 _ reading.lines refl found (c.in-Ok-Line-Head.ensures.sound c.loop-frame.invariant.sound) (tt, at.1.right.counts)
+      (counted_head _ reading.lines (lent_of c.advance.new.self) _ at.1.counted_are));
 }
 
 pub returns-in-Err : goal.returns-in-Err

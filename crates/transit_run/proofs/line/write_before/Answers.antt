@@ -1,8 +1,9 @@
-use Rattle.transit_run.proofs.Written.{before_written}
+use Rattle.std.proofs.Common.{arith}
+use Rattle.std.proofs.Math.ListN.{drop_of_length-le}
+use Rattle.transit_run.proofs.Written.{before_whole}
 use Rattle.transit_run.proofs.line.write_before.Goals as goal
 
-pub returns : goal.returns
-returns c =
-    before_written c.writeln.result _ _ c.args.line.now c.policing_word-policing.result.now c.word-fate.result.now
-    c.partner_number-number.result.0 c.difference-differs.result.0 c.policing_word-policing.ensures c.word-fate.ensures
-    c.partner_number-number.ensures c.difference-differs.ensures c.writeln.ensures.bytes
+pub returns-clause-written : goal.returns-clause-written
+returns-clause-written c =
+    before_whole _ _ _ c.args.before.now c.write_head.ensures.written c.write_fate-end.ensures.written
+    (drop_of_length-le c.args.line.now {i = 193} (omega arith))

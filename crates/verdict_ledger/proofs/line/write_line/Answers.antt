@@ -8,7 +8,7 @@ use Rattle.verdict_ledger.proofs.line.write_line.Goals as goal
 pub returns-clause-written : goal.returns-clause-written
 unfolding line_text
 returns-clause-written c =
-    let nothing : drop 98 c.args.line.now ≡ [] = drop_of_length-le c.args.line.now {i = 98} (omega arith) in
+    let nothing : drop 109 c.args.line.now ≡ [] = drop_of_length-le c.args.line.now {i = 109} (omega arith) in
     let class = ap (λ (j : Judgement). address_text j.class c.args.frame.now) c.verdict.view_is in
     rw (
       c.write_key.ensures.written,
@@ -16,6 +16,8 @@ returns-clause-written c =
       c.write_verdict-end.ensures.written,
       c.write_optional_field-end.ensures.written,
       c.write_mask-end.ensures.written,
+      c.write_length-end.ensures.written,
+      c.whole.ensures.value,
       nothing,
       class,
     )

@@ -16,8 +16,8 @@ loop-index-preserved c =
     let e = entry_with frame verdict (get_or c.args.keeps.now index None) (get_or c.args.masks.now index 0) in
     let more = entries_more c.args.frames.now c.args.verdicts.now c.args.keeps.now c.args.masks.now index frame verdict
     c.requires.verdicts c.requires.keeps c.requires.masks (omega (arith, c.loop-index-test.true, c.len-index-end.ensures)) c.frame.ensures c.index-verdicts-index.is in
-    join start _ _ _ (line_text e) c.loop-index.invariant c.in-Ok.ensures.line
-    ∙ ap (λ (l : List ℕ). start ++ l) (texts_more line_text all index e more)
+    join start _ _ _ (line_text c.args.version e) c.loop-index.invariant c.in-Ok.ensures.line
+    ∙ ap (λ (l : List ℕ). start ++ l) (texts_more (line_text c.args.version) all index e more)
 
 pub returns-clause-lines : goal.returns-clause-lines
 returns-clause-lines c =
@@ -26,4 +26,4 @@ returns-clause-lines c =
     let len = length-entries_of c.args.frames.now c.args.verdicts.now c.args.keeps.now c.args.masks.now
     c.requires.verdicts c.requires.keeps c.requires.masks in
     c.loop-index.invariant
-    ∙ ap (λ (l : List Entry). start ++ lines_text l) (take_all c.loop-index.index all (omega (arith, len, c.loop-index-test.false, c.len-index-end.ensures)))
+    ∙ ap (λ (l : List Entry). start ++ lines_text c.args.version l) (take_all c.loop-index.index all (omega (arith, len, c.loop-index-test.false, c.len-index-end.ensures)))

@@ -6,4 +6,4 @@ use Rattle.verdict_ledger.proofs.lines.append_lines.Given as goal
 
 abbrev pub invariant-loop-index : goal.invariant-loop-index
 invariant-loop-index l =
-    l.text.items ≡ l.initial.text.items ++ lines_text (take l.index (entries_of l.frames l.verdicts l.keeps l.masks))
+    l.text.items ≡ l.initial.text.items ++ lines_text l.version (take l.index (entries_of l.frames l.verdicts l.keeps l.masks))

@@ -1,4 +1,4 @@
-use Rattle.std.proofs.Common.{◌∙◌, ◌++◌, ℕ, length, refl, sym, subst, ap}
+use Rattle.std.proofs.Common.{◌≡◌, ◌∙◌, ◌++◌, ℕ, List, length, refl, sym, subst, ap}
 use Rattle.std.proofs.lemmas.List.{length-map}
 use Rattle.std.proofs.lemmas.Result.{err_from_is_err_and}
 use Rattle.std.proofs.KnownBytes.{Appends-trans}
@@ -7,16 +7,13 @@ use Rattle.filter_workers.specs.Filters.{mask_by}
 use Rattle.pcap_io.specs.Device.{CountsFailure}
 use Rattle.pcap_io.specs.Writer.{sink_of}
 use Rattle.verdict_ledger.specs.Entry.{entries_of}
+use Rattle.verdict_ledger.specs.Text.{lines_text}
 use Rattle.verdict_ledger.specs.Ledger.{StandsAfter as LedgerStandsAfter, sink_of as ledger_sink}
 use Rattle.run_fault.specs.Device.{sink_at}
 use Rattle.watch_run.specs.Filters.{entries_by, keep_by, lines_by}
 use Rattle.watch_run.specs.Outputs.{ledger_fault}
 use Rattle.watch_run.proofs.Writing.{all_after, round_told, entries_told, first_all, first_packets, ledger_stops, lines_all, lines_more, lines_some, capture_all, packets_all, packets_some, packets_whole, whole_after}
 use Rattle.watch_run.proofs.outputs.write_entries.Goals as goal
-
-pub round_text-requires-clause-text : goal.round_text-requires-clause-text
-round_text-requires-clause-text g c =
-    rw (c.deref-3.ensures.value, c.deref-4.ensures.value) (c.deref-2.ensures.value ∙ c.requires.entries.1.lines_are)
 
 pub round_text-requires-clause-keeps : goal.round_text-requires-clause-keeps
 round_text-requires-clause-keeps g c =
@@ -48,12 +45,14 @@ returns-in-Ok-clause-written g c = λ ps vl_table capture ledger frames before a
     let masks = c.deref-4.result.now in
     let added = entries_of round c.args.verdicts.now keeps masks in
     let told = entries_told ps vl_table frames round c.args.verdicts.now c.args.verdicts.now keeps masks said refl (c.deref-3.ensures.value ∙ are.keeps_are) (c.deref-4.ensures.value ∙ are.masks_are) in
+    let text : c.deref-2.result.now ≡ lines_text ps.version added = rw (c.deref-3.ensures.value, c.deref-4.ensures.value) (c.deref-2.ensures.value ∙ are.lines_are) in
+    let more = ap (λ (l : List ℕ). lines_by ps vl_table frames ++ l) text ∙ sym (lines_more ps vl_table frames round added told) in
     let written = c.in-Ok.ensures.written c.requires.ledger_going in
     record {
       lanes = stands;
       tally = subst (LedgerStandsAfter c.round_text.new.self vl_table (length ps.filters)) (sym told) (c.in-Ok.ensures.counted vl_table (length ps.filters) (entries_by ps vl_table frames) h.tally);
       packets = packets_whole ps vl_table frames round _ _ _ _ _ (round_told ps vl_table frames round _ _ said are) (c.deref.ensures.value ∙ are.packets_are) h.packets c.in_ok-write_packets.ensures.written.complete;
-      lines = subst (Appends ledger.contents (g.L.OutSink.contents (ledger_sink c.round_text.new.self))) (sym (lines_more ps vl_table frames round added told))
+      lines = subst (Appends ledger.contents (g.L.OutSink.contents (ledger_sink c.round_text.new.self))) more
           (Appends-trans _ _ _ (lines_by ps vl_table frames) _ h.lines written.0);
       capture_failures = c.in_ok-write_packets.ensures.written.no_failure ∙ h.capture_failures;
       ledger_failures = written.1 ∙ h.ledger_failures;
@@ -66,8 +65,10 @@ returns-in-Err-clause-stopped g c = rw c.fault_of_ledger.ensures (λ ps vl_table
     let masks = c.deref-4.result.now in
     let added = entries_of round c.args.verdicts.now keeps masks in
     let told = entries_told ps vl_table frames round c.args.verdicts.now c.args.verdicts.now keeps masks said refl (c.deref-3.ensures.value ∙ are.keeps_are) (c.deref-4.ensures.value ∙ are.masks_are) in
+    let text : c.deref-2.result.now ≡ lines_text ps.version added = rw (c.deref-3.ensures.value, c.deref-4.ensures.value) (c.deref-2.ensures.value ∙ are.lines_are) in
+    let more = ap (λ (l : List ℕ). lines_by ps vl_table frames ++ l) text ∙ sym (lines_more ps vl_table frames round added told) in
     let stops = ledger_stops c.in-Err.fault ledger.contents _ (g.L.OutSink.contents (ledger_sink c.round_text.new.self)) (lines_by ps vl_table frames) _ _
-    capture.failures (g.W.OutSink.failures (sink_of c.write_packets.new.capture)) ledger.failures _ _ h.lines (lines_more ps vl_table frames round added told)
+    capture.failures (g.W.OutSink.failures (sink_of c.write_packets.new.capture)) ledger.failures _ _ h.lines (sym more)
     (c.in_ok-write_packets.ensures.written.no_failure ∙ h.capture_failures) h.ledger_failures (c.in-Err.ensures.written c.requires.ledger_going) in
     record {
       packets = capture_all ps vl_table (frames ++ round) _ _

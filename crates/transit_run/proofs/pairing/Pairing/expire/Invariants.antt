@@ -1,6 +1,6 @@
-use Rattle.std.proofs.Common.{◌≡◌}
-use Rattle.transit_run.specs.Held.{held}
+use Rattle.std.proofs.Common.{[]}
+use Rattle.transit_run.specs.Held.{Keeps}
 use Rattle.transit_run.proofs.pairing.Pairing.expire.Given as goal
 
 abbrev pub invariant-loop : goal.invariant-loop
-invariant-loop l = held l.self ≡ held l.initial.self
+invariant-loop l = Keeps [] l.initial.self l.self

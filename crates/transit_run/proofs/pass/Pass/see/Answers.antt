@@ -5,7 +5,7 @@ use Rattle.transit_run.proofs.pass.Pass.see.Goals as goal
 
 pub returns-in-A-clause-ok : goal.returns-in-A-clause-ok
 returns-in-A-clause-ok c =
-    seen_ok c.goes_in.result c.args.self.now c.settle.new.self c.goes_in.new.self _ c.args.frame.now network.A c.in-A.ensures refl
+    seen_ok c.goes_in.result c.args.self.now c.settle.new.self c.goes_in.new.self _ _ c.args.frame.now network.A c.in-A.ensures refl refl
     c.in_ok-settle.ensures.ok c.goes_in.ensures.ok
 
 pub returns-in-A-clause-err : goal.returns-in-A-clause-err
@@ -14,8 +14,8 @@ returns-in-A-clause-err c =
 
 pub returns-in-B-clause-ok : goal.returns-in-B-clause-ok
 returns-in-B-clause-ok c =
-    seen_ok c.comes_out.result c.args.self.now c.settle.new.self c.comes_out.new.self _ c.args.frame.now network.B c.in-B.ensures refl
-    c.in_ok-settle.ensures.ok c.comes_out.ensures.ok
+    seen_ok c.comes_out.result c.args.self.now c.settle.new.self c.comes_out.new.self _ _ c.args.frame.now network.B c.in-B.ensures refl
+    refl c.in_ok-settle.ensures.ok c.comes_out.ensures.ok
 
 pub returns-in-B-clause-err : goal.returns-in-B-clause-err
 returns-in-B-clause-err c =

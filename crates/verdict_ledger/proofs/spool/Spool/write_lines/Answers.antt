@@ -14,7 +14,7 @@ returns-in_err-append_lines-clause-written g c =
     let len = length-entries_of c.args.frames.now c.args.verdicts.now c.args.keeps.now c.args.masks.now
     c.requires.verdicts c.requires.keeps c.requires.masks in
     rw (fault_from c.from_residual.result Memory c.from_residual.ensures.1)
-    (unappended _ _ _ (lines_some all (omega (arith, len, ap length c.all.ensures, c.in_err-append_lines.ensures.some))))
+    (unappended _ _ _ (lines_some c.args.version all (omega (arith, len, ap length c.all.ensures, c.in_err-append_lines.ensures.some))))
 
 pub returns-clause-written : goal.returns-clause-written
 returns-clause-written g c =
@@ -22,10 +22,10 @@ returns-clause-written g c =
     let failures = g.W.OutSink.failures in
     let sink = c.args.self.now.sink in
     let after = c.flush.new.self in
-    let text = lines_text (entries_of c.args.frames.now c.args.verdicts.now c.args.keeps.now c.args.masks.now) in
+    let text = lines_text c.args.version (entries_of c.args.frames.now c.args.verdicts.now c.args.keeps.now c.args.masks.now) in
     appended (fault_of c.flush.result) (contents sink) (contents after.sink) (failures sink) (failures after.sink)
     c.clear.new.self.items after.text.items text c.clear.ensures.items (where_no_fault c.flush.result c.flush.ensures.empty)
     (spooled_flush _ _ _ _ _ _ _ _ _
-    (subst (λ (fs : List Frame). c.append_lines.new.text.items ≡ c.clear.new.self.items ++ lines_text (entries_of fs c.args.verdicts.now c.args.keeps.now c.args.masks.now))
+    (subst (λ (fs : List Frame). c.append_lines.new.text.items ≡ c.clear.new.self.items ++ lines_text c.args.version (entries_of fs c.args.verdicts.now c.args.keeps.now c.args.masks.now))
     c.all.ensures c.in_ok-append_lines.ensures.lines)
     c.flush.ensures.written)

@@ -18,7 +18,7 @@ returns-in-Err-begin-clause-stopped g c =
     let begun = rw (c.deref.ensures.value ∙ c.in-Ok.ensures.head) at c.in-Ok-begin_with.ensures.written in
     let whole : Appends (g.W.OutSink.contents c.args.capture) (g.W.OutSink.contents (sink_of c.in-Ok-begin_with.writer)) (capture_by ps vl_table []) =
     subst (Appends (g.W.OutSink.contents c.args.capture) (g.W.OutSink.contents (sink_of c.in-Ok-begin_with.writer))) (sym (append-nil (head_by ps.format))) begun.complete in
-    let stops = ledger_stops c.in-Err-begin.field-0.fault _ _ _ [] ledger_head _ _ _ _ _ _ (Appends-nil (g.L.OutSink.contents c.args.ledger)) (append-nil ledger_head)
+    let stops = ledger_stops c.in-Err-begin.field-0.fault _ _ _ [] (ledger_head ps.version) _ _ _ _ _ _ (Appends-nil (g.L.OutSink.contents c.args.ledger)) (append-nil (ledger_head ps.version))
     begun.no_failure refl c.in-Err-begin.ensures.written in
     rw (c.fault_of_ledger.ensures, c.finish.ensures) (record {
       packets = capture_all ps vl_table [] _ _ whole;

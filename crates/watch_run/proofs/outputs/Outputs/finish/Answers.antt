@@ -14,7 +14,7 @@ returns-in-Ok-clause-finished g c = rw c.finish-capture.ensures (λ ps vl_table 
     let written = c.in-Ok.ensures.written c.requires.going vl_table (length ps.filters) entries h.tally in
     record {
       packets = h.packets;
-      text = subst (Appends ledger.contents (g.L.OutSink.contents c.in-Ok.ledger)) (append_assoc ledger_head (lines_text entries) rest)
+      text = subst (Appends ledger.contents (g.L.OutSink.contents c.in-Ok.ledger)) (append_assoc (ledger_head ps.version) (lines_text ps.version entries) rest)
           (Appends-trans _ _ _ (lines_by ps vl_table frames) rest h.lines written.0);
       counts = subst (IsTallyOf entries) (sym c.in-Ok.ensures.tally) h.tally.tally;
       capture_failures = h.capture_failures;
@@ -26,7 +26,7 @@ returns-clause-stopped g c = rw (c.finish-capture.ensures, c.fault_of_ledger.ens
     (let entries = entries_by ps vl_table frames in
     let rest = rest_text vl_table (length ps.filters) entries c.args.a c.args.b in
     let stops = ledger_stops c.in-Err.field-0.fault ledger.contents _ _ (lines_by ps vl_table frames) rest _ capture.failures _ ledger.failures _ _ h.lines
-    (sym (append_assoc ledger_head (lines_text entries) rest)) h.capture_failures h.ledger_failures
+    (sym (append_assoc (ledger_head ps.version) (lines_text ps.version entries) rest)) h.capture_failures h.ledger_failures
     (c.in-Err.ensures.written c.requires.going vl_table (length ps.filters) entries h.tally) in
     record {
       packets = h.packets;
