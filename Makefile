@@ -31,7 +31,7 @@
 #   make fleet-test   many flights, by GNU parallel and by Slurm, and their ledgers in SQLite and PostgreSQL (needs parallel,
 #                     slurmctld, slurmd, munged, sqlite3 and a PostgreSQL server: a part without its tools is skipped)
 #   make release-test   the scripts that release, unpack and compare the program, and a clone without the toolchain
-#   make allocations  refuses each allocation of the tests in turn
+#   make allocations  refuses each allocation of each command in turn
 #   make borrows      shows that what a frame lends can't outlive it
 #   make mutants      tries the edits of crates/*/mutants/, which the prover must refuse as it refuses the must-fail edits
 #   make further-tests   tests of crates that are too dear for the gate
@@ -108,7 +108,7 @@ mutants-of-the-program: build
 further-tests: toolchain
 	@tests/further/run
 
-allocations: toolchain
+allocations: build
 	@tests/allocations
 
 borrows: toolchain

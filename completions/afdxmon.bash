@@ -34,7 +34,7 @@ _afdxmon() {
                 cut:--verdict) _afdxmon_words 'discarded faults delivered cut runt oversize foreign unconfigured toolong regular excess within first next skip reset off out deliver copy both' "$current"; return ;;
                 watch:--workers) _afdxmon_words '1 2 3 4 5 6 7 8' "$current"; return ;;
                 *:--around | *:--bound-us | *:--code | *:--column | *:--constant | *:--early-us | *:--expected | *:--filters | *:--from | *:--grace-us | *:--late-us | *:--link | *:--routed | *:--shift-ns | *:--span | *:--title | *:--to | *:--within-us) return ;;
-                *:--digest | *:--help | *:--json | *:--ledger-only | *:--pcapng | *:--quiet | *:--resume-after-cut | *:--strict | *:--verbose | *:--whole) ;;
+                *:--details | *:--digest | *:--help | *:--json | *:--ledger-only | *:--pcapng | *:--quiet | *:--resume-after-cut | *:--strict | *:--verbose | *:--whole) ;;
                 *:-o | *:--*) _afdxmon_files "$current"; return ;;
             esac
             ;;
@@ -42,7 +42,7 @@ _afdxmon() {
     case ${COMP_WORDS[1]}:$current in
         capture:-*) _afdxmon_words '--code --filter --source -o --output --pcapng --late-us -v --verbose -h --help' "$current" ;;
         asm:-*) _afdxmon_words '-v --verbose -h --help' "$current" ;;
-        watch:-*) _afdxmon_words '--config --filter --a --b --capture --ledger --manifest --digest --workers --late-us --quiet --strict --resume-after-cut --pcapng -v --verbose -h --help' "$current" ;;
+        watch:-*) _afdxmon_words '--config --filter --a --b --capture --ledger --details --manifest --digest --workers --late-us --quiet --strict --resume-after-cut --pcapng -v --verbose -h --help' "$current" ;;
         debug:-*) _afdxmon_words '--filter --source --tap --late-us -v --verbose -h --help' "$current" ;;
         cut:-*) _afdxmon_words '--ledger --a --b --before --after --config --link --network --verdict --from --to --span --filters --around --ledger-only --resume-after-cut --pcapng -o --output -v --verbose -h --help' "$current" ;;
         links:-*) _afdxmon_words '--a --b --constant --icd --column --resume-after-cut -v --verbose -h --help' "$current" ;;

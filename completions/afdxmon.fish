@@ -36,6 +36,7 @@ complete -c afdxmon -n $watch -l a -r -F -d 'The recording of network A, pcap or
 complete -c afdxmon -n $watch -l b -r -F -d 'The recording of network B, pcap or pcapng files, or @LIST of paths'
 complete -c afdxmon -n $watch -l capture -r -F -d 'The capture to write, a nanosecond pcap file'
 complete -c afdxmon -n $watch -l ledger -r -F -d 'The ledger of verdicts to write'
+complete -c afdxmon -n $watch -l details -d 'Write a ledger of version 3, with each frame\'s length on the wire'
 complete -c afdxmon -n $watch -l manifest -r -F -d 'The manifest to write: a JSON text of what the run was of'
 complete -c afdxmon -n $watch -l digest -d 'Take the SHA-256 of recordings and outputs into the manifest'
 complete -c afdxmon -n $watch -l workers -x -a '1 2 3 4 5 6 7 8' -d 'The number of workers, 1 to 8'

@@ -31,8 +31,10 @@ TYPES = {
     "sequence": "UInt8",
     "kept": "Int32",
     "mask": "string",
+    "length": "int64",
 }
 NAMES = ["time", "network", "number", "link", "sequence", "class", "policing", "integrity", "redundancy", "kept", "mask"]
+WITH_LENGTHS = b"afdx-ledger 3\n"  # the first line of a ledger of `watch --details`
 OUTCOMES = ["passed", "slow", "overtaken", "changed", "lax", "leak", "dropped", "refused", "unrouted", "open"]
 OF_TRANSITS = {
     **{name: TYPES[name] for name in ("time", "number", "link", "sequence", "class")},
@@ -76,10 +78,18 @@ def links(path):
     return found.set_index("id")
 
 
+def names(path):
+    """The columns of a ledger: version 3 has the frame's length on the wire too."""
+    with open(path, "rb") as text:
+        return [*NAMES, "length"] if text.readline(64) == WITH_LENGTHS else NAMES
+
+
 def parts(path, size=1_000_000):
     """The lines of frames, so many at a time, for ledgers that memory doesn't hold."""
     count = int(totals(path)["frames"])
-    how = {"sep": " ", "names": NAMES, "dtype": TYPES, "skiprows": 1, "nrows": count, "na_values": ["-"], "keep_default_na": False}
+    columns = names(path)
+    how = {"sep": " ", "names": columns, "dtype": {name: TYPES[name] for name in columns}, "skiprows": 1, "nrows": count}
+    how |= {"na_values": ["-"], "keep_default_na": False}
     if count == 0:
         return
     with pandas.read_csv(path, chunksize=size, **how) as text:
@@ -92,7 +102,7 @@ def parts(path, size=1_000_000):
 def read(path):
     """All lines of frames."""
     found = list(parts(path))
-    return pandas.concat(found, ignore_index=True) if found else pandas.DataFrame(columns=NAMES)
+    return pandas.concat(found, ignore_index=True) if found else pandas.DataFrame(columns=names(path))
 
 
 def transits(path):
@@ -166,9 +176,10 @@ def skew(frames):
 
 
 def bandwidth(frames, window="1s"):
-    """kbit/s of each link and network in each window of time, of a ledger whose run had a filter that keeps frames whole."""
+    """kbit/s of each link and network in each window of time, of a ledger of `watch --details`, or one whose run had a filter that keeps
+    frames whole."""
     seen = frames.dropna(subset=["link"])
-    bits = 8 * seen.groupby([pandas.Grouper(key="time", freq=window), "link", "network"], observed=True)["kept"].sum()
+    bits = 8 * seen.groupby([pandas.Grouper(key="time", freq=window), "link", "network"], observed=True)["length" if "length" in seen else "kept"].sum()
     return (bits / 1000 / pandas.Timedelta(window).total_seconds()).unstack(["link", "network"], fill_value=0)
 
 

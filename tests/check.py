@@ -23,11 +23,11 @@ START = 1_800_000_000 * 10**9
 UNSOUND = "afdxmon: check 1 Unsound"
 TOP = {"constant": "50331648", "late_us": "0", "filters": "[]"}
 LINK = {"id": "5", "name": '"brake"', "bag_ms": "1", "jitter_us": "0", "smax": "200", "integrity": "true", "redundancy": "true", "skew_us": "1000"}
-TOP_KEYS, LINK_KEYS = ("constant", "link", "late_us", "filters"), tuple(LINK)
-REQUIRED = {"constant", *LINK_KEYS}
+TOP_KEYS, LINK_KEYS = ("constant", "link", "late_us", "filters"), (*LINK, "group")
+REQUIRED = {"constant", *LINK}
 KNOWN = {
     None: "the table has constant, late_us, filters and the links",
-    0: "a link has id, name, bag_ms, jitter_us, smax, integrity, redundancy and skew_us",
+    0: "a link has id, name, bag_ms, jitter_us, smax, integrity, redundancy, skew_us and group",
 }
 # Of each key values that are taken, out of range, and of another type.
 VALUES = {
@@ -42,6 +42,7 @@ VALUES = {
     "integrity": (["true", "false"], [], ["1", '"true"', "1979-05-27"]),
     "redundancy": (["true", "false"], [], ["0", '"no"']),
     "skew_us": (["0", "1000000"], ["-1", "1000001"], ["[]", '"1"']),
+    "group": (['"p"', '"' + "g" * 32 + '"', '"Port-7_B"'], ['""', '"' + "g" * 33 + '"', '"port 7"', '"port/7"', '"ü"'], ["7", "true", '["port_7"]']),
 }
 
 
@@ -187,7 +188,7 @@ def tables():
             for key in LINK_KEYS:
                 what = chance.random()
                 if what < 0.05:
-                    del link[key]
+                    link.pop(key, None)
                 elif what < 0.15 and VALUES[key][1]:
                     link[key] = chance.choice(VALUES[key][1])
                 elif what < 0.2:
@@ -841,7 +842,7 @@ class Check(Case):
         """Tables whose faults are no key's, and links in other forms."""
         path = os.path.join(self.folder, "t.toml")
         write(path, "constant = 50331648\nlink = [\n  { id = 5, bag_ms = 3 },\n  7,\n]\n")
-        missing = [key for key in LINK_KEYS if key not in ("id", "bag_ms")]
+        missing = [key for key in LINK if key not in ("id", "bag_ms")]
         text = f"table: {path}: 8 faults\nfault: {path}:2:1: link = a value of type array: {texts.ALLOWED['link']}\n"
         text += "".join(f"fault: {path}:3:3: link 0, id 5: {key} is missing: {texts.ALLOWED[key]}\n" for key in missing)
         text += f"fault: {path}:3:13: link 0, id 5: bag_ms = 3: {texts.ALLOWED['bag_ms']}\nsound: no, 8 faults and 0 questions\n"

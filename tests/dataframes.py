@@ -62,10 +62,10 @@ def lines_of(path):
 
 def slowly(path):
     """The same by loops over the lines."""
-    frames = [[int(w[0]), w[1], int(w[2]), *w[3:10], int(w[10], 16)] for w in lines_of(path) if w[0].isdigit()]
+    frames = [[int(w[0]), w[1], int(w[2]), *w[3:10], int(w[10], 16), *map(int, w[11:])] for w in lines_of(path) if w[0].isdigit()]
     rows = [[None if it == "-" else int(it) if at in (3, 4, 9) else it for at, it in enumerate(row)] for row in frames]
     excess, least, last, delivered, skews = Counter(), {}, {}, {}, defaultdict(list)
-    for time, network, _, link, sequence, kind, policing, _, redundancy, _, _ in rows:
+    for time, network, _, link, sequence, kind, policing, _, redundancy, *_ in rows:
         if policing == "excess":
             excess[time // 10**9 * 10**9, link] += 1
         if kind == "regular":
@@ -81,13 +81,13 @@ def slowly(path):
     return {
         "rows": rows,
         "in parts": rows,
-        "types": ["datetime64[ns, UTC]", "category", "int64", "Int32", "UInt8", *["category"] * 4, "Int32", "uint8"],
+        "types": ["datetime64[ns, UTC]", "category", "int64", "Int32", "UInt8", *["category"] * 4, "Int32", "uint8", *["int64"] * (len(rows[0]) - 11)],
         "totals": dict(zip(total[::2], map(int, total[1::2]))),
         "links": [[int(w[1]), w[2], *map(int, w[4::2])] for w in counts],
         "excess": [[time, link, count] for (time, link), count in sorted(excess.items())],
         "least": least,
         "skew": {link: [max(found), len(found)] for link, found in skews.items()},
-        "kbit": 8 * sum(row[9] or 0 for row in rows if row[3] is not None) / 60_000,
+        "kbit": 8 * sum(row[-1] if row[11:] else row[9] or 0 for row in rows if row[3] is not None) / 60_000,
     }
 
 
@@ -122,13 +122,15 @@ def found_in(*words, script=SCRIPT):
 
 
 class Dataframes(Case):
+    more = ()
+
     def setUp(self):
         if not has_pandas():
             self.skipTest("no pandas and matplotlib here")
         self.ledger = os.path.join(self.folder, "flight.ledger")
         taps = [word for tap in "ab" for word in (f"--{tap}", os.path.join(FLIGHT, f"flight_{tap}.pcap"))]
         tables = [os.path.join(FLIGHT, f"flight.{kind}") for kind in ("toml", "filter")]
-        run(["watch", "--config", tables[0], "--filter", tables[1], *taps, "--ledger", self.ledger])
+        run(["watch", "--config", tables[0], "--filter", tables[1], *taps, "--ledger", self.ledger, *self.more])
 
     def test_frames(self):
         found, expected = found_in(self.ledger, os.path.join(FLIGHT, "flight.toml")), slowly(self.ledger)
@@ -148,6 +150,12 @@ class Dataframes(Case):
         command = [DEBIAN_PYTHON, "-c", "import ledger, sys; ledger.read(sys.argv[1])", self.ledger]
         ran = subprocess.run(command, capture_output=True, env={**os.environ, "PYTHONPATH": FLIGHT})
         self.case("examples/ledger.py: an incomplete ledger", "" if b"ledger.Incomplete" in ran.stderr else f"{ran.stderr[-200:]!r}")
+
+
+class WithLengths(Dataframes):
+    """A ledger of version 3."""
+
+    more = ("--details",)
 
 
 class OfPath(Case):

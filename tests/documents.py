@@ -39,8 +39,6 @@ VERBS = (
 SAYS_WHAT_TO_DO = re.compile(rf"({'|'.join(VERBS)})\b")
 COMMAND = re.compile(r"(editcap|tcpdump) ")
 ODD_COMMENT = re.compile(r"(//[/!]?|--+( -+)?) (what|whether|who|those|of those)\b", re.I)
-# A heading among proofs that the next change of its crate words anew: a source that changes asks for a program that is built anew.
-NOT_YET = "-- ---- what stands after a call that may fail"
 
 
 def pages():
@@ -147,7 +145,7 @@ def odd_comments():
         for name in sorted(name for name in names if name.endswith((".rt", ".antt"))):
             lines = text_of(os.path.join(where, name)).splitlines()
             for number, (before, line) in enumerate(zip(["", *lines], lines), 1):
-                if ODD_COMMENT.match(line.lstrip()) and line != NOT_YET and not before.lstrip().startswith(("//", "--")):
+                if ODD_COMMENT.match(line.lstrip()) and not before.lstrip().startswith(("//", "--")):
                     yield f"{os.path.relpath(os.path.join(where, name), TOP)}:{number}"
 
 

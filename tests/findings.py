@@ -1,9 +1,9 @@
 """What `afdxmon report` tells of a flight: its findings, against the truth of what was planted.
 
 Flights of many links get faults whose findings are known before the program runs (tests/plants.py, tests/faults.py): what must be told, of
-which links, when and with how many signs. All else that is told is a false alarm (tests/truths.py). Of the environment: AFDXMON_SEED, for
-other flights; AFDXMON_FLIGHTS, how many flights with faults; AFDXMON_ALL, whether all sound flights, flights seen otherwise and damaged
-ledgers are run.
+which links, when and with how many signs. All else that is told is a false alarm (tests/truths.py). A tenth of the flights changes with
+the commit. Of the environment: AFDXMON_SEED, for other flights; AFDXMON_FLIGHTS, how many flights with faults; AFDXMON_ALL, whether all
+sound flights, flights seen otherwise and damaged ledgers are run.
 
 usage: python3 -m tests.findings SEED    runs one flight or ledger again, as a failure names it, and keeps its files
 """
@@ -22,6 +22,7 @@ from tests import sender_faults as senders
 from tests.harness import PROGRAM, SUCCESS, TOP, Case, run
 from tests.known import FAST, FIXED
 from tests.plants import Unfit, World
+from tests.transit_cases import commit
 from tests.truths import RANK, Told, accounting, faults_of, lines_of
 
 ALL = bool(os.environ.get("AFDXMON_ALL"))
@@ -53,8 +54,6 @@ DRAWN = (
 )
 # What the recorders do comes after what they record.
 RECORDERS = (faults.recorder_late, faults.recorder_ends, faults.broken, faults.clock_back, faults.no_frames)
-# What isn't told rightly yet: a clock step of hours among links of minutes is told twice.
-NOT_YET = {"constant/2"}
 FAMILIES = {fault: set(families.split()) for fault, families, _ in DRAWN}
 
 
@@ -76,9 +75,11 @@ def told(table, ledger):
     return Told(found["findings"], found["totals"], found["unaccounted"], levels)
 
 
-def base_seed():
-    """The seed of the flights: AFDXMON_SEED has others."""
-    return os.environ.get("AFDXMON_SEED", "constant")
+def seeds_of(count):
+    """The seeds of so many flights: a tenth of them changes with the commit. AFDXMON_SEED has others for all."""
+    base = os.environ.get("AFDXMON_SEED")
+    always, changing = base or "constant", base or commit()
+    return [f"{changing if i % 10 == 9 else always}/{i}" for i in range(count)]
 
 
 # ---- one flight
@@ -308,8 +309,7 @@ class Findings(Case):
 
     def test_random(self):
         """Flights with one fault or three; the cases are by the first fault."""
-        base, found = base_seed(), {}
-        seeds = [seed for i in range(FLIGHTS) if (seed := f"{base}/{i}") not in NOT_YET]
+        seeds, found = seeds_of(FLIGHTS), {}
         for names, fault in side_by_side(flights_of, [seeds[i : i + 20] for i in range(0, len(seeds), 20)]):
             found.setdefault(names[0], []).append(fault)
         for name in sorted(found):
@@ -318,7 +318,7 @@ class Findings(Case):
 
     def many(self, name, work, count, share):
         """A case of so many flights or ledgers, so many in one piece of work."""
-        seeds = [f"{base_seed()}/{i}" for i in range(count)]
+        seeds = seeds_of(count)
         found = [fault for _, fault in side_by_side(work, [seeds[i : i + share] for i in range(0, count, share)]) if fault]
         self.case(f"findings: {count} {name}", f"{len(found)} are wrong\n" + "\n".join(found[:4]) if found else "")
 

@@ -107,7 +107,8 @@ def link_text(link, row, frames, a, b, counts):
         counts["beyond"] += 1
     elif "within" in stands.values():
         counts["within"] += 1
-    return text + keys_text(link, row.get("name") or f"vl_{link}", values)
+    text += keys_text(link, row.get("name") or f"vl_{link}", values)
+    return text + (f'group = "{row["group"]}"\n' if "group" in row else "")
 
 
 def expected(rows, a=None, b=None, wanted=None):
@@ -212,6 +213,27 @@ NAMES = (
     (18, "'x'", "x_18"),
     (65535, "b" * 33, "b" * 26 + "_65535"),
 )
+
+
+# Groups of documents, and those that the draft has.
+GROUPS = (
+    ("port_7", "port_7"),
+    ("A", "A"),
+    ("L" * 32, "L" * 32),
+    ("L" * 33, "L" * 32),
+    ("L" * 31 + "\u00e4", "L" * 31),
+    ("L" * 30 + "\u00e4", "L" * 30 + "ae"),
+    ("Port 7", "Port_7"),
+    ("Port / 7", "Port_7"),
+    (" Port 7 ", "Port_7"),
+    ("(x)", "x_"),
+    ("K\u00fchlung-2", "Kuehlung-2"),
+    ("\u65e5\u672c", None),
+    ("///", None),
+    ("7", "7"),
+)
+# Heads that are read as that of groups.
+OF_GROUPS = ("group", "Group", "LRU", "lru", "Port", "PORT", "Equipment")
 
 
 class Icd(Case):
@@ -486,6 +508,29 @@ class Icd(Case):
         ran = run(["links", "--a", self.desk.put("empty", header()), "--column", "id=x"], stdout=subprocess.PIPE)
         self.case("icd: --column without --icd", difference(ran, USAGE, lambda text: MISUSE["NoDocument"] in text, b""))
 
+    def test_groups(self):
+        """The group of a link: heads, texts that a table holds and others, and rows and documents that have none."""
+        for head in OF_GROUPS:
+            self.drafts(f"{head} for group", f"id,{head}\n7,port_7\n8,\n", [{"id": 7, "group": "port_7"}, {"id": 8}])
+        rows = [{"id": link, **({"group": group} if group else {})} for link, (_, group) in enumerate(GROUPS, 1)]
+        document = "id,LRU\n" + "".join(f'{link},"{original}"\n' for link, (original, _) in enumerate(GROUPS, 1))
+        self.drafts("groups that a table holds, and others", document, rows)
+        named_rows = [{"id": 7, "name": "a", "bag_ms": 2, "group": "fcc"}, {"id": 9, "name": "b", "bag_ms": 4, "group": "fcc"}]
+        plain = "name,lru,id,bag_ms\na,fcc,7,2\nb,fcc,9,4\n"
+        self.drafts("a group among other columns", plain, named_rows)
+        self.drafts("the first of two columns that may be the group", "id,LRU,Port\n7,fcc,3\n8,,4\n", [{"id": 7, "group": "fcc"}, {"id": 8}])
+        self.drafts("the same, the other way round", "id,Port,LRU\n7,3,fcc\n", [{"id": 7, "group": "3"}])
+        self.drafts("group before its synonyms", "id,LRU,group\n7,fcc,g\n", [{"id": 7, "group": "g"}])
+        self.drafts("a head that is given for the group", "id,LRU,Port\n7,fcc,3\n", [{"id": 7, "group": "3"}], more=("--column", "group=Port"))
+        self.drafts("a group that is passed over", "id,LRU\n7,fcc\n", [{"id": 7}], more=("--column", "group="))
+        self.drafts("a row that has a group alone", "id,LRU\n,fcc\n7,fcc\n", [{"id": 7, "group": "fcc"}])
+        for head in ("Groups", "LRU name", "Portion", "UDP Port"):
+            self.drafts(f"{head} is no group", f"id,{head}\n7,x\n", [{"id": 7}])
+        self.lists("group twice", "id,group,Group\n7,a,b\n", "links 2 Icd at 1 head",
+                   ['1: column C, "Group", is the second of group: --column group=HEAD says which is'])
+        frames = header() + b"".join(record(START + k * MS, frame(7, 80, k % 255 + 1)) for k in range(3))
+        self.drafts("groups, and a recording", "id,LRU\n7,fcc\n8,fcc\n", [{"id": 7, "group": "fcc"}, {"id": 8, "group": "fcc"}], frames)
+
     def test_names(self):
         """Names that no table holds: the draft has others, which differ, and says the documents' own."""
         rows = [{"id": link, "name": name, "original": original} for link, original, name in NAMES]
@@ -513,7 +558,7 @@ class Icd(Case):
 
     def test_told(self):
         """What is told of a document that is refused: all its faults, each with its line, its column and what stands there."""
-        none = "no head is id; others may be name, bag_ms, jitter_us, smax, integrity, redundancy and skew_us"
+        none = "no head is id; others may be name, bag_ms, jitter_us, smax, integrity, redundancy, skew_us and group"
         smax = "smax is an integer, 64 to 1518"
         ids = "id is an integer, 0 to 65535"
         flag = "a flag is true or false, yes or no, 1 or 0"

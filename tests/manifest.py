@@ -3,14 +3,20 @@
 Digests are those of hashlib, lengths those of the files, frames, timestamps and endings those of tests/reference.py.
 """
 import datetime
+import fcntl
 import hashlib
 import html
+import itertools
 import json
 import os
 import re
 import shutil
+import signal
+import struct
 import subprocess
+import termios
 import threading
+import time
 
 from tests.analyser import watch
 from tests.harness import (
@@ -21,6 +27,8 @@ from tests.texts import FULL, MANIFEST, MISUSE, OUTPUT, UNWRITTEN, advice_on
 from tests.watching import TABLE, AtADesk, notes_on, tap
 
 START = 1_800_000_000 * 10**9
+# The bytes that a pipe has room for.
+PIPE = 65536
 ENDS = {
     "clean": b"",
     "cut": record(START + 10**9, frame(5, 60, 9))[:-1],
@@ -126,6 +134,19 @@ def verified(folder):
     command = re.search(r"\$ (jq -r '\(\.inputs.*?sha256sum -c)", read(TOP, "docs", "GUIDE.md").decode(), re.S)[1]
     ran = subprocess.run(["bash", "-o", "pipefail", "-c", command], cwd=folder, capture_output=True, text=True)
     return [line.removesuffix(": OK") for line in ran.stdout.splitlines() if line.endswith(": OK")], ran.returncode
+
+
+def is_full(pipe):
+    return struct.unpack("i", fcntl.ioctl(pipe, termios.FIONREAD, bytes(4)))[0] == PIPE
+
+
+def awaited(process, look):
+    """What a look finds, once it finds something, within ten seconds of a process."""
+    for _ in range(1000):
+        if (found := look()) or process.poll() is not None:
+            return found
+        time.sleep(0.01)
+    return None
 
 
 def pour(path, data):
@@ -279,6 +300,15 @@ class Manifest(AtADesk):
             self.case(f"manifest: verification: a byte of {changed} was changed", "" if found == (wanted, 1) else f"{found}, not {wanted}")
             put(self.desk.directory, changed, before)
 
+    def test_bad_recording(self):
+        """A recording that ends bad has the digest of its first bytes, as many as the manifest says."""
+        a = frames(0, 2000, *range(1000, 5_000_000, 1000))
+        it = Run(self.desk, {**INPUTS, "a": a}, "--digest")
+        it.run()
+        found = json.loads(read(it.target))["inputs"]["a"]
+        fits = found["end"] == "bad" and 0 < found["bytes"] <= len(a) and found["sha256"] == digest(a[: found["bytes"]])
+        self.case("manifest: the digest of a recording that ends bad", "" if fits else repr(found))
+
     def test_pipes(self):
         """All inputs by pipes: of them the bytes that were read."""
         given = {**INPUTS, "a": frames(*(i * 1000 for i in range(3000)))}
@@ -317,6 +347,45 @@ class Manifest(AtADesk):
         for reader in readers:
             reader.join()
         self.case("manifest: outputs that are pipes", difference(ran, SUCCESS, "", b"") or it.compared(written) or ("" if came == written else "they differ"))
+
+    def test_short_write(self):
+        """A pipe takes the ledger's lines up to the ninth byte of the last one, then the rest: it isn't read as a line of its own.
+
+        All lines are written at once when network B ends. The pipe is full then, and a signal ends the write.
+        """
+        name = "manifest: a line that is written in two parts"
+        config = f"late_us = 1000000\n{TABLE}"
+
+        def recorded(count, shorter=0):
+            """Network A of so many frames, of which the first ones have a line that is a byte shorter."""
+            a = tap(*((START + i * 10**6, frame(5, 60 if i < shorter else 100, i % 255 + 1)) for i in range(count)))
+            return a, watch(config, EVERY, a, header())
+
+        lengths = [0, *itertools.accumulate(map(len, recorded(1000)[1].lines.splitlines(True)[1:]))]
+        before = next(i for i, length in enumerate(lengths) if length >= PIPE - 9)
+        a, expected = recorded(before + 1, lengths[before] - (PIPE - 9))
+        names = {option: os.path.join(self.desk.directory, "pipe_" + option) for option in ("b", "ledger")}
+        it = Run(self.desk, {**INPUTS, "config": config, "a": a, "b": header()}, **names)
+        for path in names.values():
+            os.mkfifo(path)
+        with open(os.open(names["ledger"], os.O_RDONLY | os.O_NONBLOCK), "rb", buffering=0) as ledger, open(names["b"], "r+b", buffering=0) as b:
+            process = subprocess.Popen([PROGRAM, *it.arguments], stdin=subprocess.DEVNULL, stdout=subprocess.PIPE, stderr=subprocess.PIPE)
+            b.write(header())
+            head = awaited(process, lambda: ledger.read(14)) or b""
+            b.close()
+            filled = awaited(process, lambda: is_full(ledger))
+            if filled:
+                process.send_signal(signal.SIGSTOP)
+                os.waitpid(process.pid, os.WUNTRACED)
+                process.send_signal(signal.SIGCONT)
+            os.set_blocking(ledger.fileno(), True)
+            came = head + ledger.read()
+        out, told = process.communicate()
+        if not filled:
+            return self.skip(name, f"a pipe of {PIPE} bytes")
+        written = {"capture": expected.capture, "ledger": expected.lines + expected.summary}
+        fault = difference(subprocess.CompletedProcess(process.args, process.returncode, out, told), SUCCESS, "", b"")
+        self.case(name, fault or it.compared(written) or ("" if came == written["ledger"] else "the ledger differs"))
 
     def test_usage(self):
         self.desk.lay(**INPUTS)

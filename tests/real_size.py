@@ -17,6 +17,8 @@ from tests.watching import TABLE, AtADesk, tap
 START = 1_800_000_000 * 10**9
 # A virtual link that the table lacks: its frames need no rule but that of their class.
 OUTSIDE = 6
+# With the widest window for late timestamps: frames within a second wait for each other.
+WIDE = f"late_us = 1000000\n{TABLE}"
 
 
 def listed(desk, option, paths):
@@ -25,18 +27,17 @@ def listed(desk, option, paths):
 
 
 class RealSize(AtADesk):
-    def test_falling(self, frames=50_000):
-        """Both recordings go back in time from frame to frame, by a second in all: all their frames wait in the window."""
-        step = (10**9 - 1) // frames
-        config = f"late_us = 1000000\n{TABLE}"
-        a, b = (tap(*((START + 10**9 - i * step - own, frame(OUTSIDE, 60, i % 255 + 1)) for i in range(frames))) for own in (0, 1))
-        expected = watch(config, EVERY, a, b)
-        self.desk.lay(config=config, filter=EVERY, a=a, b=b)
-        fault = self.desk.agrees(self.desk.watch(), expected.capture, expected.lines + expected.summary)
-        self.case(f"real size: watch, {frames} frames of each network in falling order", fault)
-        words = ["cut", "--ledger", self.desk.paths["ledger"], "--a", self.desk.paths["a"], "--b", self.desk.paths["b"]]
-        ran = run(words, stdin=subprocess.DEVNULL, stdout=subprocess.PIPE)
-        self.case(f"real size: cut, {frames} frames of each network in falling order", difference(ran, SUCCESS, "", expected.capture))
+    def test_pending(self, frames=50_000):
+        """All frames of both recordings stand within a second, in falling or in rising order, and wait in the window."""
+        for order, step in (("falling", -(10**9 // frames - 1)), ("rising", 10**9 // frames - 1)):
+            a, b = (tap(*((START + 10**9 + i * step - own, frame(OUTSIDE, 60, i % 255 + 1)) for i in range(frames))) for own in (0, 1))
+            expected = watch(WIDE, EVERY, a, b)
+            self.desk.lay(config=WIDE, filter=EVERY, a=a, b=b)
+            fault = self.desk.agrees(self.desk.watch(), expected.capture, expected.lines + expected.summary)
+            self.case(f"real size: watch, {frames} frames of each network in {order} order", fault)
+            words = ["cut", "--ledger", self.desk.paths["ledger"], "--a", self.desk.paths["a"], "--b", self.desk.paths["b"]]
+            ran = run(words, stdin=subprocess.DEVNULL, stdout=subprocess.PIPE)
+            self.case(f"real size: cut, {frames} frames of each network in {order} order", difference(ran, SUCCESS, "", expected.capture))
 
     def test_many_files(self):
         """A recording in more files than any list within the program has places for."""
@@ -75,6 +76,7 @@ class RealSize(AtADesk):
                 lines = [line for line in ran.stderr.decode().splitlines() if "a gap of" in line]
                 between = [f" between {first} and {second}" for first, second in zip(paths, paths[1:])][:told]
                 fits = len(lines) == told and all(line.endswith(end) for line, end in zip(lines, between))
+                fits = fits and (b"network A has more gaps between its files\n" in ran.stderr) == (0 < told < count)
                 self.case(f"real size: check, {count} gaps of {gap} ns between files", "" if fits else repr(ran.stderr))
 
     def test_order(self):
@@ -113,12 +115,12 @@ class RealSize(AtADesk):
         known = [one["id"] for one in found["outside"]]
         self.case("real size: report names identifiers outside the table", fault or ("" if known and set(known) <= set(outside) else repr(known[:9])))
 
-    def test_large_frames(self, frames=300, size=20_000):
-        """Frames of 20 000 bytes: what a worker makes of its share of a round is larger than 2 MB."""
+    def test_large_frames(self, frames=200, size=200_000):
+        """Frames of 200 000 bytes in one round: each chunk of it that a worker takes has more than 2 MB, a sixteenth for eight workers."""
         a = tap(*((START + i * 10**6, frame(OUTSIDE, size, i % 255 + 1)) for i in range(frames)))
-        expected = watch(TABLE, EVERY, a, header())
+        expected = watch(WIDE, EVERY, a, header())
         for workers in ("1", "2", "8"):
-            self.desk.lay(config=TABLE, filter=EVERY, a=a, b=header())
+            self.desk.lay(config=WIDE, filter=EVERY, a=a, b=header())
             fault = self.desk.agrees(self.desk.watch("--workers", workers), expected.capture, expected.lines + expected.summary)
             self.case(f"real size: watch, {frames} frames of {size} bytes, {workers} workers", fault)
 
@@ -135,7 +137,7 @@ class RealSize(AtADesk):
         one, two = frame(5, 60, 1), frame(5, 60, 2)
         begun = Blocks().section().interface("one", 9).interface("two", 9).packet(START, one).bytes()
         last = Blocks().packet(START + 1, two, 1).bytes()
-        for over, at_once in ((0, True), (4, False)):
+        for over, at_once in ((-4, True), (0, True), (4, False)):
             filling = bytes(MOST_BLOCK + over - len(begun) - len(last) - 12)
             path = put(self.desk.directory, "interfaces", begun + Blocks().block(CUSTOM, filling).bytes() + last)
             ran = run(["capture", "--code", EVERY, path], stdin=subprocess.DEVNULL, stdout=subprocess.PIPE)

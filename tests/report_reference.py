@@ -9,7 +9,7 @@ import sys
 import tomllib
 from collections import namedtuple
 
-Line = namedtuple("Line", "at stamp network number link sequence cls policing integrity redundancy kept mask ordinal")
+Line = namedtuple("Line", "at stamp network number link sequence cls policing integrity redundancy kept mask ordinal size has_length")
 CLASSES = ["cut", "runt", "oversize", "foreign", "unconfigured", "toolong"]
 SIGNS = CLASSES + ["excess", "out"]
 BINS, WHOLE = 240, 262144
@@ -21,12 +21,13 @@ def optional(field, read=int):
 
 def read_lines(path):
     """The lines of frames, with each line's place in the ledger and its ordinal on its network, from 1; the lines of counts; and where the ledger
-    ends."""
+    ends. The size of a frame is its length on the wire in version 3, else what is kept of it."""
     lines, ordinals, tail = [], {"A": 0, "B": 0}, []
     with open(path, encoding="ascii") as ledger:
         held = ledger.read().split("\n")
         stop = {"lines": len(held) - 1, "within_line": held.pop() != ""}
-        assert held[:1] in ([], ["afdx-ledger 2"])
+        assert held[:1] in ([], ["afdx-ledger 2"], ["afdx-ledger 3"])
+        with_length = held[:1] == ["afdx-ledger 3"]
         for text in held[1:]:
             f = text.split()
             if not f[0].isdigit():
@@ -34,7 +35,9 @@ def read_lines(path):
                 continue
             ordinals[f[1]] += 1
             lines.append(Line(len(lines), int(f[0]), f[1], int(f[2]), optional(f[3]), optional(f[4]), f[5], optional(f[6], str),
-                              optional(f[7], str), optional(f[8], str), optional(f[9]), int(f[10], 16), ordinals[f[1]]))
+                              optional(f[7], str), optional(f[8], str), optional(f[9]), int(f[10], 16), ordinals[f[1]],
+                              int(f[11]) if with_length else optional(f[9]), with_length))
+            assert len(f) == 11 + with_length
     return lines, tail, stop
 
 
@@ -63,9 +66,13 @@ def takes_whole(text):
     return int(form[0]) == 1 and fields[0] == "6" and int(fields[3]) >= WHOLE
 
 
+def tells_sizes(lines, table):
+    return any(line.has_length for line in lines) or any(takes_whole(text) for text in table.get("filters", []))
+
+
 def bytes_of(ledger, lines):
     """With the check sequence, where sizes are known."""
-    return sum(l.kept + 4 for l in lines if l.kept is not None) if ledger.sizes else None
+    return sum(l.size + 4 for l in lines if l.size is not None) if ledger.sizes else None
 
 
 def place(line):
@@ -130,7 +137,7 @@ def row_of(name, of, start, width, merge=sum):
 
 def timeline(lines, hits, copies, start, width):
     """The rows in which something came."""
-    rows = [("frames", [(l, 1) for l in lines], sum), ("load", [(l, l.kept + 24) for l in lines if l.kept is not None], sum),
+    rows = [("frames", [(l, 1) for l in lines], sum), ("load", [(l, l.size + 24) for l in lines if l.size is not None], sum),
             ("skew", copies, max)]
     rows += [(sign, [(l, n) for s, l, n in hits if s == sign and n > 0], sum) for sign in SIGNS]
     return [row_of(name, of, start, width, merge) for name, of, merge in rows if of]
@@ -181,7 +188,7 @@ def by_time(table_path, ledger_path):
     with open(table_path, "rb") as table:
         table = tomllib.load(table)
     lines, _, _ = read_lines(ledger_path)
-    ledger = Ledger(lines, any(takes_whole(text) for text in table.get("filters", [])))
+    ledger = Ledger(lines, tells_sizes(lines, table))
     start, width, said = lines[0].stamp if lines else 0, width_of(lines), {}
 
     def bins(of):
@@ -196,7 +203,7 @@ def by_time(table_path, ledger_path):
         rows = said[link["id"]] = {"row": row, "A": {}, "B": {}}
         for n in "AB":
             lane = [l for l in ledger.of[n] if l.link == link["id"] and l.cls in ("toolong", "regular")]
-            rows[n] = {"frames": bins((l, 1) for l in lane), "bytes": bins((l, l.kept + 4) for l in lane if l.kept is not None),
+            rows[n] = {"frames": bins((l, 1) for l in lane), "bytes": bins((l, l.size + 4) for l in lane if l.size is not None),
                        "interval": bins((q, q.stamp - p.stamp) for p, q in zip(lane, lane[1:])),
                        "skew": bins((l, skew) for l, skew in copies if l.network == n)}
             for sign in SIGNS:
@@ -216,7 +223,7 @@ def reference(table_path, ledger_path):
     with open(table_path, "rb") as table:
         table = tomllib.load(table)
     lines, tail, stop = read_lines(ledger_path)
-    ledger = Ledger(lines, any(takes_whole(text) for text in table.get("filters", [])))
+    ledger = Ledger(lines, tells_sizes(lines, table))
     links = []
     copies = {"A": [], "B": []}
     for link in sorted(table.get("link", []), key=lambda l: l["id"]):

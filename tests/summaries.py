@@ -151,5 +151,6 @@ class Summaries(AtADesk):
         self.summed("one recording twice", TABLE, tap(*sound), tap(*sound), ONE_RECORDING)
         self.summed("each frame with its copy a nanosecond later", TABLE, tap(*sound), tap(*frames(20, start=1)), None)
         self.summed("one recording and its start", TABLE, tap(*sound), tap(*sound)[:-1], None)
+        self.summed("one recording, and a frame of another link", TABLE, tap(*sound), tap(*sound, (10**9, frame(77, 60, 1))), None)
         example = [read(os.path.join(TOP, "examples", "flight" + end)) for end in (".toml", "_a.pcap", "_b.pcap")]
         self.summed("the flight of examples", example[0].decode(), *example[1:], None)

@@ -141,6 +141,8 @@ TABLES = (
     (TABLE.replace("bag_ms = 1", "bag_ms = 3").replace("\n", "\r\n"), "4 Range link 0", f":6:1: {BRAKE}: bag_ms = 3\nbag_ms = 3\n^\n", ALLOWED["bag_ms"]),
     (TABLE + LINK_6.replace("smax = 200", "smax = 63"), "4 Range link 1", f":18:1: {FLAPS}: smax = 63\nsmax = 63\n^\n", ALLOWED["smax"]),
     (TABLE.replace("id = 5", "id = -1"), "4 Range link 0", ':4:1: link 0, id -1, name "brake": id = -1\nid = -1\n^\n', ALLOWED["id"]),
+    (TABLE + 'group = "port 7"\n', "4 Range link 0", f':12:1: {BRAKE}: group = "port 7"\ngroup = "port 7"\n^\n', ALLOWED["group"]),
+    (TABLE + "group = 7\n", "3 Kind link 0", f":12:1: {BRAKE}: group = 7\ngroup = 7\n^\n", ALLOWED["group"]),
     (TABLE.replace("brake", "b r"), "4 Range link 0", ':5:1: link 0, id 5, name "b r": name = "b r"\nname = "b r"\n^\n', ALLOWED["name"]),
     (TABLE.replace("brake", "b" * 64), "4 Range link 0", f':5:1: link 0, id 5, name "{"b" * 64}": name = "{"b" * 64}"\nname = "{"b" * 64}"\n^\n', ALLOWED["name"]),
     (TABLE.replace("brake", "b" * 65), "4 Range link 0", f':5:1: link 0, id 5: name = a value of type string\nname = "{"b" * 65}"\n^\n', ALLOWED["name"]),

@@ -83,7 +83,7 @@ ADVICE = {
     "transit 8 Selection": "Give --routed identifiers 0 to 65535, as 301-305,42, or names of the table, as engine_*",
     "check 1 Unsound": "Read why in the answer: a run with these inputs would not be sound",
     "report 1 Ledger": "Take the ledger as watch wrote it: the line has no frame's form",
-    "report 1 Ledger at 1 head": "Give a ledger of version 2, as afdxmon watch --ledger writes it",
+    "report 1 Ledger at 1 head": "Give a ledger of version 2 or 3, as afdxmon watch --ledger writes it",
     "report 2 Contradiction at 2 link": "Take the table of the run: this one doesn't say the same of the link",
     "report 2 Contradiction at 2 copy": "Take the run's ledger and table as they were: the copy has no delivery before it",
     "report 2 Contradiction at 3 counts": "Take the run's ledger and table as they were: the frames' lines give other counts",
@@ -114,10 +114,11 @@ ALLOWED = {
     "integrity": "integrity is true or false",
     "redundancy": "redundancy is true or false",
     "skew_us": "skew_us is an integer, 0 to 1000000",
+    "group": "group is a string of 1 to 32 letters, digits, _ and -",
 }
 NO_DOCUMENT = "the table is a TOML document"
 TOP_KEYS = "the table has constant, late_us, filters and the links"
-LINK_KEYS = "a link has id, name, bag_ms, jitter_us, smax, integrity, redundancy and skew_us"
+LINK_KEYS = "a link has id, name, bag_ms, jitter_us, smax, integrity, redundancy, skew_us and group"
 COUNTS = "at most 4096 links and 7 filters"
 # What a terminal shows before what a table may have.
 CORRECT = "Correct it: "
@@ -222,6 +223,7 @@ Options:
       --b <FILE>          The recording of network B, pcap or pcapng files, or @LIST of paths
       --capture <FILE>    The capture to write, a nanosecond pcap file
       --ledger <FILE>     The ledger of verdicts to write
+      --details           Write a ledger of version 3, with each frame's length on the wire
       --manifest <FILE>   The manifest to write: a JSON text of what the run was of
       --digest            Take the SHA-256 of recordings and outputs into the manifest
       --workers <N>       The number of workers, 1 to 8 [default: 2]
@@ -311,9 +313,9 @@ Options:
 The draft says what was seen and not what was specified: check it against the ICD. With --icd it says
 what the ICD specifies, and what was seen where that leaves a value out; comments say where both differ.
 The ICD is a table as spreadsheets export it: the heads of its columns are id and any of name, bag_ms,
-jitter_us, smax, integrity, redundancy and skew_us, or as 'VL ID' and 'BAG [ms]'; --column names others,
-and all else is passed over. Without --constant the draft has the most common constant field with bits 24
-and 25 set. '-' is standard input.
+jitter_us, smax, integrity, redundancy, skew_us and group, or as 'VL ID', 'BAG [ms]' and 'LRU'; --column
+names others, and all else is passed over. Without --constant the draft has the most common constant
+field with bits 24 and 25 set. '-' is standard input.
 
 Example: a table from two recordings, and a run with it
   afdxmon links --a a.pcap --b b.pcap > draft.toml
@@ -410,7 +412,7 @@ PROGRAM_HELP = (
     + "Options:\n  -h, --help     Print help\n  -V, --version  Print version\n"
 )
 # The commit is in the place of the letters, of which the program has as many.
-VERSION = "afdxmon 1.0.0 (commit unknown-tree) proved by rattle-kit-13f\n"
+VERSION = "afdxmon 1.0.0 (commit unknown-tree) proved by rattle-kit-13b\n"
 # What a session at a terminal begins with.
 COMMANDS = "commands: select N, step [+|-]N, cont, breakpoint N, disassemble, tally, quit"
 
@@ -425,7 +427,7 @@ MISUSE = {
     "TwoFilters": "more than one filter is given\n  Give one of them",
     "NoRecording": "no recording is given\n  Name one by --a, --b or both",
     "NoLinks": "no recording is given\n  Name one by --a, --b or both, or an ICD by --icd",
-    "NoColumn": "--column isn't KEY=HEAD, or has a KEY twice\n  Give as KEY id, name, bag_ms, jitter_us, smax, integrity, redundancy or skew_us",
+    "NoColumn": "--column isn't KEY=HEAD, or has a KEY twice\n  Give as KEY id, name, bag_ms, jitter_us, smax, integrity, redundancy, skew_us or group",
     "NoDocument": "--column is of a document, and none is given\n  Name it by --icd",
     "Unfiltered": "--capture has no filter, which says of what frames it is\n  Name one by --filter",
     "NoNetwork": "--network is neither A nor B\n  Give A or B",

@@ -38,6 +38,9 @@ local fields = {
   partner = ProtoField.uint32("afdx.transit.partner", "Index of its partner on the other side", base.DEC),
   latency = ProtoField.int64("afdx.transit.latency", "Latency in nanoseconds", base.DEC),
   differs = ProtoField.uint32("afdx.transit.differs", "First byte that differs from its partner's", base.DEC),
+  finding = ProtoField.string("afdx.finding", "Finding"),
+  finding_kind = ProtoField.string("afdx.finding.kind", "Kind of the finding"),
+  finding_level = ProtoField.string("afdx.finding.level", "Level of the finding"),
 }
 local list = {}
 for _, field in pairs(fields) do list[#list + 1] = field end
@@ -57,6 +60,7 @@ afdx.prefs.tap = Pref.enum("Tap", BY_TIMESTAMP, "Which network's recording this 
 afdx.prefs.side = Pref.enum("Side", BY_TIMESTAMP,
   "Of a ledger of transits: which recording this is. By timestamp: any, or a selection of both",
   { { 1, "before", 1 }, { 2, "after", 2 }, { 3, "timestamp", BY_TIMESTAMP } }, false)
+afdx.prefs.findings = Pref.string("Findings", "", "What afdxmon report --json wrote; empty for none")
 afdx.prefs.constant = Pref.string("Constant field", "03000000", "The first four bytes of the network's frames, in hexadecimal")
 
 -- Timestamps ----------------------------------------------------------------------------------------------------------
@@ -94,18 +98,22 @@ local PROBE = 512          -- bytes that hold at least one whole line
 local COUNTS = 4194304     -- bytes that hold all lines of counts: 4096 virtual links of 800 bytes, and more
 local LINE = "^\n(%d+) (%a+) (%d+) (%S+) (%S+) (%S+) (%S+) (%S+) (%S+) (%S+) (%S+)"
 
+-- A ledger of watch. The length of version 3, behind the mask, Wireshark knows itself.
+local OF_WATCH = {
+  stamp = "^\n(%d+) [AB] ",
+  line_at = function(text, place)
+    local line = {}
+    line.stamp, line.tap, line.number, line.vl, line.sn, line.class, line.policing, line.integrity,
+      line.redundancy, line.kept, line.mask = text:match(LINE, place)
+    return line.stamp and line
+  end,
+}
+
 -- The ledgers that there are, by their first lines: the pattern of the timestamp of a frame's line, and its
 -- fields.
 local FORMS = {
-  ["afdx-ledger 2\n"] = {
-    stamp = "^\n(%d+) [AB] ",
-    line_at = function(text, place)
-      local line = {}
-      line.stamp, line.tap, line.number, line.vl, line.sn, line.class, line.policing, line.integrity,
-        line.redundancy, line.kept, line.mask = text:match(LINE, place)
-      return line.stamp and line
-    end,
-  },
+  ["afdx-ledger 2\n"] = OF_WATCH,
+  ["afdx-ledger 3\n"] = OF_WATCH,
   ["afdx-transit 1\n"] = {
     stamp = "^\n(%d+) %l+ ",
     line_at = function(text, place)
@@ -198,7 +206,7 @@ function Ledger.open(path)
   local form, run, start = head_of(file)
   if not form then
     file:close()
-    return nil, path .. ": no ledger of version 2, and none of transits of version 1"
+    return nil, path .. ": no ledger of version 2 or 3, and none of transits of version 1"
   end
   -- A buffer of the library's would read more than a probe needs, and at each seek anew.
   file:setvbuf("no")
@@ -378,10 +386,82 @@ end
 
 -- The dissector -------------------------------------------------------------------------------------------------------
 
--- The ledger and the constant field of the preferences; the window on the frames that came out, of a ledger
+-- The findings of a report --------------------------------------------------------------------------------------------
+
+-- The text that begins with the quote at a place of a JSON text, and the place behind it. Of an escape the character
+-- stands that was escaped: findings have no other.
+local function text_at(json, at)
+  local parts, from = {}, at + 1
+  while true do
+    local stop = json:find('["\\]', from)
+    parts[#parts + 1] = json:sub(from, stop - 1)
+    if json:sub(stop, stop) == '"' then return table.concat(parts), stop + 1 end
+    parts[#parts + 1] = json:sub(stop + 1, stop + 1)
+    from = stop + 2
+  end
+end
+
+-- Has each item between the bracket at a place and the one that closes it read. The place behind that.
+local function items_at(json, at, close, read_item)
+  at = json:find("%S", at + 1)
+  while json:sub(at, at) ~= close do at = json:find("[^%s,]", read_item(at)) end
+  return at + 1
+end
+
+-- The value at a place of a JSON text, and the place behind it.
+local function value_at(json, at)
+  at = json:find("%S", at)
+  local first, held = json:sub(at, at), {}
+  if first == '"' then return text_at(json, at) end
+  if first == "{" then
+    return held, items_at(json, at, "}", function(place)
+      local name, behind = text_at(json, place)
+      held[name], behind = value_at(json, json:find(":", behind, true) + 1)
+      return behind
+    end)
+  end
+  if first == "[" then
+    return held, items_at(json, at, "]", function(place)
+      held[#held + 1], place = value_at(json, place)
+      return place
+    end)
+  end
+  local word = json:match("^[%w.+-]+", at)
+  return tonumber(word) or word == "true", at + #word
+end
+
+-- The findings of a report by their links, and under `all` those that name none.
+local function findings_of(path)
+  local file, why = io.open(path, "rb")
+  if not file then return nil, why end
+  local is_json, report = pcall(value_at, file:read("*a"), 1)
+  file:close()
+  if not is_json or type(report) ~= "table" or type(report.findings) ~= "table" then
+    return nil, path .. " isn't what afdxmon report --json writes"
+  end
+  local by_link = { all = {} }
+  for _, finding in ipairs(report.findings) do
+    finding.from, finding.to = later(finding.from, -INEXACT - LOST), later(finding.to, INEXACT)
+    local links = #finding.links > 0 and finding.links or { "all" }
+    for _, link in ipairs(links) do
+      by_link[link] = by_link[link] or {}
+      table.insert(by_link[link], finding)
+    end
+  end
+  return by_link
+end
+
+-- Is the frame of the finding's networks and time?
+local function covers(finding, frame)
+  local stamp = timestamp(frame.seconds, frame.nanoseconds)
+  return not is_before(stamp, finding.from) and not is_before(finding.to, stamp)
+    and (not frame.network or finding.networks:find(frame.network, 1, true) ~= nil)
+end
+
+-- The preferences' ledger, findings and constant field; the window on the frames that came out, of a ledger
 -- of transits; whether a frame's line was found or its lack was told, and whether someone sees the frame's
 -- tree.
-local state = { ledger = nil, window = nil, constant = "", is_found = false, is_shown = false }
+local state = { ledger = nil, findings = nil, window = nil, constant = "", is_found = false, is_shown = false }
 
 -- The bytes that the preference writes in hexadecimal.
 local function constant_bytes(digits)
@@ -397,7 +477,12 @@ function afdx.init()
   if state.ledger then state.ledger.file:close() end
   if state.window then state.window.ledger.file:close() end
   state.constant, state.ledger, state.window = constant_bytes(afdx.prefs.constant), nil, nil
-  state.is_found = false
+  state.is_found, state.findings = false, nil
+  if afdx.prefs.findings ~= "" then
+    local findings, why = findings_of(afdx.prefs.findings)
+    if not findings then report_failure("afdx.findings: " .. why) end
+    state.findings = findings
+  end
   if afdx.prefs.ledger == "" then return end
   local ledger, why = Ledger.open(afdx.prefs.ledger)
   if not ledger then report_failure("afdx.ledger: " .. why) end
@@ -522,6 +607,20 @@ local function add_verdict(tree, frame)
   return line.side and add_transit(tree, line) or add_judgement(tree, line)
 end
 
+-- Adds what a report found of the frame's link, network and time.
+local function add_findings(tree, frame)
+  if not (wants(tree, fields.finding) or wants(tree, fields.finding_kind) or wants(tree, fields.finding_level)) then return end
+  for _, findings in ipairs({ state.findings[frame.vl] or {}, state.findings.all }) do
+    for _, finding in ipairs(findings) do
+      if covers(finding, frame) then
+        add(tree, fields.finding, finding.text)
+        add(tree, fields.finding_kind, finding.kind)
+        add(tree, fields.finding_level, finding.level)
+      end
+    end
+  end
+end
+
 -- The text of the tree's top line: a frame's link and number, and the verdict.
 local function describe(tree, frame, verdict)
   if frame.is_afdx then tree:append_text(", virtual link " .. frame.vl .. (frame.sn and ", number " .. frame.sn or "")) end
@@ -534,6 +633,7 @@ function afdx.dissector(buffer, packet, root)
   state.is_shown = root.visible
   local tree = root:add(afdx, buffer())
   if frame.is_afdx then add_bytes(tree, buffer, frame) end
+  if frame.is_afdx and state.findings then add_findings(tree, frame) end
   local verdict = state.ledger and add_verdict(tree, frame)
   if state.is_shown then describe(tree, frame, verdict) end
 end

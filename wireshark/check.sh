@@ -57,12 +57,17 @@ lines() {
     }' | in_order
 }
 
+# The ledger's lines of frames, without the lengths of version 3.
+held() {
+    grep -E '^[0-9]+ [AB] ' "$ledger" | cut -d ' ' -f 1-11
+}
+
 # The ledger's lines of the recording's frames, as the ledger has them.
 expected() {
     case $frames in
-        A | B) grep -E "^[0-9]+ $frames " "$ledger" | sort -s -n -k 3,3 ;;
-        capture) grep -E '^[0-9]+ [AB] .* [0-9]+ [0-9a-f]{2}$' "$ledger" ;;
-        part) grep -E '^[0-9]+ [AB] ' "$ledger" | grep -F -x -f "$work/fields" | in_order ;;
+        A | B) held | grep -E "^[0-9]+ $frames " | sort -s -n -k 3,3 ;;
+        capture) held | grep -E ' [0-9]+ [0-9a-f]{2}$' ;;
+        part) held | grep -F -x -f "$work/fields" | in_order ;;
         *) echo 'usage: check.sh RECORDING LEDGER A|B|capture|part' >&2; exit 2 ;;
     esac
 }

@@ -55,10 +55,11 @@ CREATE TABLE IF NOT EXISTS silences (
     PRIMARY KEY (flight, finding)
 );
 
--- The lines of frames, of flights that were loaded with --frames.
+-- The lines of frames, of flights that were loaded with --frames. `length`, on the wire, is that of a ledger of version 3, else NULL.
 CREATE TABLE IF NOT EXISTS frames (
     flight TEXT NOT NULL, nanoseconds BIGINT NOT NULL, network TEXT NOT NULL, number BIGINT NOT NULL, link INTEGER,
     sequence INTEGER, class TEXT NOT NULL, policing TEXT, integrity TEXT, redundancy TEXT, kept BIGINT, mask TEXT NOT NULL,
+    length BIGINT,
     PRIMARY KEY (flight, network, number)
 );
 

@@ -1,6 +1,5 @@
 //! The table of virtual links and the judgements, by the worked examples of the rules.
 
-mod allocation;
 // further: mod cuts;
 mod lanes;
 // further: mod many;

@@ -1,33 +1,13 @@
 //! Tests of the crates from outside, for what no contract says: worked examples, sizes, devices that fail,
-//! memory that is refused, threads.
+//! threads. Memory that is refused is a case of the program (`tests/allocations`).
 //!
 //! This crate has no function of its own. What its tests share stands in `support`.
 #![tactic(auto)]
 
 #[cfg(test)]
-mod assembler;
-#[cfg(test)]
-mod capture;
-#[cfg(test)]
-mod debug;
-#[cfg(test)]
-mod debugger;
-#[cfg(test)]
-mod ending;
-#[cfg(test)]
-mod frames;
-#[cfg(test)]
 mod judges;
 #[cfg(test)]
-mod ledger;
-#[cfg(test)]
-mod ledger_lines;
-#[cfg(test)]
-mod machine;
-#[cfg(test)]
 mod merge;
-#[cfg(test)]
-mod pcapng_files;
 #[cfg(test)]
 mod recording;
 #[cfg(test)]
@@ -40,8 +20,6 @@ mod selection;
 mod several;
 #[cfg(test)]
 mod support;
-#[cfg(test)]
-mod text;
 #[cfg(test)]
 mod watch;
 #[cfg(test)]

@@ -1,12 +1,10 @@
-//! The one order of both taps' frames: worked examples, the core over a list of events, and failing
-//! allocations.
+//! The one order of both taps' frames: worked examples, and the core over a list of events.
 
 use afdx_frame::{Network, Stamp, TapFrame};
 use frame_batch::Round;
 use ordered_merge::Merger;
 use std::process::Abort;
 
-mod allocation;
 // further: mod cores;
 // further: mod lists;
 // further: mod numbers;

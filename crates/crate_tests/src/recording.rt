@@ -1,5 +1,5 @@
 //! Recordings of the pcap savefile format 2.4: what is read of them and how they end, what is written,
-//! devices that fail, and failing allocations.
+//! and devices that fail.
 
 use afdx_frame::{Network, Stamp, TapFrame};
 use pcap_io::{MemSource, TapReader};
@@ -7,7 +7,6 @@ use std::alloc::{AllocError, Global};
 use std::process::Abort;
 
 // further: mod ahead;
-mod allocation;
 // further: mod batches;
 // further: mod blocks;
 // further: mod copies;

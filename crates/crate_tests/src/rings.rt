@@ -1,5 +1,5 @@
-//! Recordings over a ring, fed and taken on one thread: what it gives, its ends when it is settled or left,
-//! and refused growth.
+//! Recordings over a ring, fed and taken on one thread: what it gives, and its ends when it is settled or
+//! left.
 ghost use Rattle.std.specs.Prelude.{IfOk};
 ghost use Rattle.tap_queue.specs.Ring.{IsRing, SameEnd, put_of};
 
@@ -11,7 +11,6 @@ use std::alloc::{AllocError, Global};
 use std::sync::Wait;
 use tap_queue::{Fed, RingLost, TapEnd, TapGate, TapItem, feed, tap_ring};
 
-mod allocation;
 // further: mod arrivals;
 // further: mod endings;
 // further: mod gate;

@@ -1,9 +1,10 @@
 //! Recordings in several files: reads that fail, and files that come back. What is read of them, and how they
 //! end, are cases of the program (`tests/several.py`).
-ghost use Rattle.std.specs.Prelude.{IfOk, None, OnErr, OnOk};
+ghost use Rattle.std.specs.Prelude.{◌≡◌, IfOk, None, OnErr, OnOk};
+ghost use Rattle.std.specs.VecDeque.{deque_len};
 ghost use Rattle.pcap_io.specs.Device.{CountsFailure, NoFailure};
 ghost use Rattle.pcap_io.specs.declared.told.Told.TheVariants.{Nothing};
-ghost use Rattle.recording_files.specs.Supply.{GivesNext, KeepsFiles};
+ghost use Rattle.recording_files.specs.Supply.{CountsNext, GivesNext, KeepsFiles};
 
 use crate::support::{HEADER, SOUND};
 use pcap_io::{DeviceFault, MemSource, Script, TapSource};
@@ -26,6 +27,8 @@ struct Files {
 }
 
 impl FileSupply<MemSource> for Files {
+    ghost left = { λ s. deque_len s.files };
+
     ghost failures = { λ s. s.failures };
 
     fn next_file(
@@ -34,6 +37,8 @@ impl FileSupply<MemSource> for Files {
     ) -> Result<Option<MemSource>, DeviceFault>
         ensures next { IfOk result (GivesNext (λ _. None) (λ _. Nothing) None None) }
         ensures kept { OnErr result (KeepsFiles None None) }
+        ensures count { IfOk result (CountsNext (deque_len self.old.files) (deque_len self.new.files)) }
+        ensures same { OnErr result (deque_len self.new.files ≡ deque_len self.old.files) }
         ensures no_failure { OnOk result (NoFailure self.old.failures self.new.failures) }
         ensures fault { OnErr result (CountsFailure self.old.failures self.new.failures) }
     {
@@ -47,7 +52,10 @@ impl FileSupply<MemSource> for Files {
             self.failures = self.failures.saturating_add(1);
             return Err(DeviceFault);
         }
-        Ok(self.files.pop_front())
+        match self.files.pop_front() {
+            Some(file) => Ok(Some(file)),
+            None => Ok(None),
+        }
     }
 }
 

@@ -1,8 +1,7 @@
-//! Two recordings analysed whole, on one thread and on several: worked examples, devices that fail, what is
-//! told of a run, and refused allocations.
+//! Two recordings analysed whole, on one thread and on several: worked examples, devices that fail, and what
+//! is told of a run.
 
 // further: mod aborts;
-mod allocation;
 // further: mod comparing;
 mod counted;
 // further: mod devices;

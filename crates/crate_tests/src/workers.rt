@@ -1,6 +1,5 @@
 //! The desk at which workers claim, rounds filtered, and the pool of workers.
 
-mod allocation;
 mod desk;
 // further: mod generated;
 // further: mod pool;

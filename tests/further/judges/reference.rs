@@ -28,7 +28,7 @@ const TOP: [Row; 4] = [
     ("filters", false, Rule::Strings),
 ];
 
-const LINK: [Row; 8] = [
+const LINK: [Row; 9] = [
     ("id", true, Rule::Between(0, 65535)),
     ("name", true, Rule::Name),
     ("bag_ms", true, Rule::Bag),
@@ -37,6 +37,7 @@ const LINK: [Row; 8] = [
     ("integrity", true, Rule::Boolean),
     ("redundancy", true, Rule::Boolean),
     ("skew_us", true, Rule::Between(0, 1_000_000)),
+    ("group", false, Rule::Name),
 ];
 
 /// The first fault of a document.

@@ -70,7 +70,7 @@ const NO_KEY: ConfigFault = ConfigFault::Missing { link: Some(0) };
 const NO_RANGE: ConfigFault = ConfigFault::Range { link: Some(0) };
 
 /// The line that stands in place of the line of a key, or at the top, and the fault.
-const SINGLE_FAULTS: [(&str, &str, ConfigFault); 28] = [
+const SINGLE_FAULTS: [(&str, &str, ConfigFault); 31] = [
     ("constant", "", ConfigFault::Missing { link: None }),
     ("id", "", NO_KEY),
     ("name", "", NO_KEY),
@@ -103,6 +103,13 @@ const SINGLE_FAULTS: [(&str, &str, ConfigFault); 28] = [
         "skew_us",
         "skew_us = 1\nskew = 1",
         ConfigFault::UnknownKey { link: Some(0) },
+    ),
+    ("skew_us", "skew_us = 1\ngroup = \"\"", NO_RANGE),
+    ("skew_us", "skew_us = 1\ngroup = \"port 7\"", NO_RANGE),
+    (
+        "skew_us",
+        "skew_us = 1\ngroup = 7",
+        ConfigFault::Kind { link: Some(0) },
     ),
     ("", "late_us = 1000001", ConfigFault::Range { link: None }),
     ("", "late_us = 1.0", ConfigFault::Kind { link: None }),

@@ -5,7 +5,7 @@ use crate::support::{SOUND, TABLE, TWO_TAPS};
 use pcap_io::{Ending, MemSink, Script};
 use std::process::Abort;
 use std::test::Fail;
-use verdict_ledger::{Ledger, LedgerFault};
+use verdict_ledger::{Ledger, LedgerFault, LedgerVersion};
 use vl_config::Config;
 
 /// Adds the lines. Where that fails each later call fails too, counts nothing and writes nothing. Returns the
@@ -39,7 +39,7 @@ fn written(
     script: Script,
 ) -> Result<MemSink, Fail> {
     let sink = MemSink::new(rt.alloc(), script)?;
-    let mut ledger = match Ledger::begin(rt.alloc(), config, 1, sink) {
+    let mut ledger = match Ledger::begin(rt.alloc(), config, 1, LedgerVersion::Two, sink) {
         Ok(ledger) => ledger,
         Err(refused) => {
             assert!(rt; refused.fault == LedgerFault::Device);

@@ -8,7 +8,7 @@ use afdx_frame::Network;
 use pcap_io::{BadReason, Ending, MemSink, Script};
 use std::process::Abort;
 use std::test::Fail;
-use verdict_ledger::Ledger;
+use verdict_ledger::{Ledger, LedgerVersion};
 use vl_config::Config;
 
 /// A sink with room for each of them.
@@ -310,7 +310,7 @@ fn begun(
     filters: u32,
 ) -> Result<Ledger<MemSink>, Fail> {
     assert!(rt; 1 <= filters && filters <= 8);
-    match Ledger::begin(rt.alloc(), config, filters, MemSink::new(rt.alloc(), WIDE)?) {
+    match Ledger::begin(rt.alloc(), config, filters, LedgerVersion::Two, MemSink::new(rt.alloc(), WIDE)?) {
         Ok(ledger) => Ok(ledger),
         Err(refused) => Err(refused.fault.into()),
     }

@@ -9,7 +9,7 @@ use std::alloc::Global;
 use std::fmt::Write;
 use std::process::Abort;
 use std::test::Fail;
-use verdict_ledger::Ledger;
+use verdict_ledger::{Ledger, LedgerVersion};
 use vl_config::Config;
 use vl_judge::Lanes;
 
@@ -63,7 +63,7 @@ fn many_of(rt: &(impl Abort + AllocGlobal), config: &Config, len: u32) -> Result
 
 /// A ledger in memory, of one filter, in which no frame stands yet.
 fn begun(alloc: Global, config: &Config) -> Result<Ledger<WriteSink<Vec<u8>>>, Fail> {
-    match Ledger::begin(alloc, config, 1, WriteSink::new(Vec::new(alloc))) {
+    match Ledger::begin(alloc, config, 1, LedgerVersion::Two, WriteSink::new(Vec::new(alloc))) {
         Ok(ledger) => Ok(ledger),
         Err(refused) => Err(refused.fault.into()),
     }

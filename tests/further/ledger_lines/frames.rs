@@ -7,6 +7,7 @@ use policing::Policing;
 use redundancy::Redundancy;
 use std::process::Abort;
 use std::test::Fail;
+use verdict_ledger::LedgerVersion;
 use vl_config::Class;
 use vl_judge::Verdict;
 
@@ -26,6 +27,7 @@ pub fn letter(read: &Result<FrameLine, FrameFault>) -> u8 {
         Err(FrameFault::Kept) => b'j',
         Err(FrameFault::Mask) => b'k',
         Err(FrameFault::Fields) => b'l',
+        Err(FrameFault::Length) => b'm',
     }
 }
 
@@ -214,7 +216,7 @@ fn prefixes(rt: &impl Abort, line: &[u8], wanted: &[u8]) {
     assert!(rt; wanted.len() == line.len() + 1);
     for (len, want) in wanted.iter().enumerate() {
         if len <= line.len() {
-            assert!(rt; letter(&read_frame(&line[..len])) == *want, "at {len}");
+            assert!(rt; letter(&read_frame(LedgerVersion::Two, &line[..len])) == *want, "at {len}");
         }
     }
 }
@@ -227,7 +229,7 @@ fn changes(rt: &impl Abort, line: &[u8], at: usize, wanted: &[u8]) {
         changed[..line.len()].copy_from_slice(line);
         changed[at] = *other;
         assert!(rt;
-            letter(&read_frame(&changed[..line.len()])) == *want,
+            letter(&read_frame(LedgerVersion::Two, &changed[..line.len()])) == *want,
             "at {at}"
         );
     }
@@ -247,7 +249,7 @@ fn reads_prefixes_and_changed_lines(rt: HostRuntime) {
 #[test]
 fn reads_whole_lines(rt: HostRuntime) {
     for (line, want) in &LINES {
-        assert!(rt; letter(&read_frame(line)) == *want);
+        assert!(rt; letter(&read_frame(LedgerVersion::Two, line)) == *want);
     }
 }
 
@@ -268,6 +270,37 @@ fn reads_the_values(rt: HostRuntime) {
         },
         kept: Some(108),
         mask: 0xa1,
+        length: None,
     };
-    assert!(rt; read_frame(line) == Ok(values));
+    assert!(rt; read_frame(LedgerVersion::Two, line) == Ok(values));
+}
+
+/// What stands after the mask of a line, and what is read of the line in versions 2 and 3.
+const LENGTHS: [(&[u8], u8, u8); 12] = [
+    (b"", b'.', b'm'),
+    (b" ", b'l', b'm'),
+    (b" 0", b'l', b'.'),
+    (b" 64", b'l', b'.'),
+    (b" 4294967295", b'l', b'.'),
+    (b" 4294967296", b'l', b'm'),
+    (b" 064", b'l', b'm'),
+    (b" -", b'l', b'm'),
+    (b" +64", b'l', b'm'),
+    (b" 64 ", b'l', b'l'),
+    (b" 64 64", b'l', b'l'),
+    (b"  64", b'l', b'm'),
+];
+
+#[test]
+fn reads_lengths(rt: HostRuntime) {
+    let line = b"7 A 1 3 4 regular within next deliver - 00";
+    for (rest, two, three) in &LENGTHS {
+        assert!(rt; line.len() + rest.len() <= 96);
+        let mut text = [0u8; 96];
+        text[..line.len()].copy_from_slice(line);
+        let len = line.len() + rest.len();
+        text[line.len()..len].copy_from_slice(rest);
+        assert!(rt; letter(&read_frame(LedgerVersion::Two, &text[..len])) == *two);
+        assert!(rt; letter(&read_frame(LedgerVersion::Three, &text[..len])) == *three);
+    }
 }

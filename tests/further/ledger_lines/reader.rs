@@ -1,7 +1,7 @@
 //! Ledgers that a reader by the written rules has judged: the number of lines that are read, or that of the
 //! first wrong line, and what is found there. `C` is the end of a complete ledger, `I` that of an incomplete
 //! one and `P` that of one that ends within a line, `H` a wrong head, `O` a wrong order, `N` a missing
-//! newline, `X` a line that is too long, `M` one line more than are read, and `a` to `l` a wrong field.
+//! newline, `X` a line that is too long, `M` one line more than are read, and `a` to `m` a wrong field.
 use crate::ledger_lines::frames::letter;
 use crate::ledger_lines::pieces;
 use ledger_text::{FoundLine, LedgerReader, LedgerStop, LineFault, ReadFault};
@@ -25,10 +25,11 @@ const PARTS: [&[u8]; 10] = [
 ];
 
 /// Whole ledgers, and what is found in them.
-const LEDGERS: [(&[u8], u64, u8); 19] = [
+const LEDGERS: [(&[u8], u64, u8); 23] = [
     (b"", 0, b'I'),
     (b"\n", 1, b'H'),
     (b"afdx-ledger 2\n", 1, b'I'),
+    (b"afdx-ledger 3\n", 1, b'I'),
     (b"afdx-ledger 1\n", 1, b'H'),
     (b"afdx-ledger 2\r\n", 1, b'H'),
     (b"afdx-ledger 2", 0, b'P'),
@@ -57,6 +58,21 @@ const LEDGERS: [(&[u8], u64, u8); 19] = [
         b"afdx-ledger 2\n7 A 1 3 4 regular within next copy 77 00\n",
         2,
         b'k',
+    ),
+    (
+        b"afdx-ledger 3\n7 A 1 - - cut - - - - 00 64\ntotal\n",
+        3,
+        b'C',
+    ),
+    (
+        b"afdx-ledger 3\n7 A 1 - - cut - - - - 00 64\n7 A 2 - - cut - - - - 00\n",
+        3,
+        b'm',
+    ),
+    (
+        b"afdx-ledger 2\n7 A 1 - - cut - - - - 00\n7 A 2 - - cut - - - - 00 64\n",
+        3,
+        b'l',
     ),
     (b"afdx-ledger 2\nlink\n\n", 3, b'O'),
     (b"afdx-ledger 2\nlink\nfilter\ntap\ntap\ntotal\n", 6, b'C'),

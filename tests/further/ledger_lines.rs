@@ -2,7 +2,6 @@
 
 use pcap_io::Script;
 
-mod allocation;
 // further: mod cuts;
 // further: mod frames;
 // further: mod reader;

@@ -2,7 +2,6 @@
 //!
 //! Each ledger is written by single lines, by a round, and by a round's text.
 
-mod allocation;
 // further: mod devices;
 // further: mod examples;
 // further: mod many;
@@ -13,7 +12,7 @@ use frame_batch::Round as Frames;
 use pcap_io::OutSink;
 use std::alloc::{AllocError, Global};
 use std::process::Abort;
-use verdict_ledger::{Ledger, LedgerFault, append_lines};
+use verdict_ledger::{Ledger, LedgerFault, LedgerVersion, append_lines};
 use vl_config::Config;
 use vl_judge::{Lanes, Verdict};
 
@@ -35,20 +34,6 @@ impl Round {
             keeps: Vec::new(alloc),
             masks: Vec::new(alloc),
         }
-    }
-
-    /// Appends the lines of the frames.
-    pub fn append_to(&self, rt: &impl Abort, text: &mut Vec<u8>) -> Result<(), AllocError> {
-        assert!(rt; self.verdicts.len() == self.frames.len());
-        assert!(rt; self.keeps.len() == self.frames.len());
-        assert!(rt; self.masks.len() == self.frames.len());
-        append_lines(
-            text,
-            &self.frames.all(),
-            &self.verdicts,
-            &self.keeps,
-            &self.masks,
-        )
     }
 }
 
@@ -162,7 +147,8 @@ fn add_text<W: OutSink>(
         masks,
     } = round;
     let mut text = Vec::new(rt.alloc());
-    if append_lines(&mut text, &frames.all(), verdicts, keeps, masks).is_err() {
+    let version = LedgerVersion::Two;
+    if append_lines(&mut text, version, &frames.all(), verdicts, keeps, masks).is_err() {
         assert!(rt; text.is_empty());
         return Err(LedgerFault::Memory);
     }

@@ -1,6 +1,5 @@
-//! The command `capture` over devices: devices that fail, and refused allocations.
+//! The command `capture` over devices: devices that fail.
 
-mod allocation;
 // further: mod arguments;
 // further: mod asm;
 // further: mod devices;

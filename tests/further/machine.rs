@@ -1,7 +1,6 @@
-//! The instruction table, and failing allocations. The numeric form by worked examples, and the loader by
-//! one program for each fault, are cases of the program (`tests/numeric.py`, `tests/program`).
+//! The instruction table. The numeric form by worked examples, and the loader by one program for each fault,
+//! are cases of the program (`tests/numeric.py`, `tests/program`).
 
-mod allocation;
 // further: mod codes;
 // further: pub(crate) mod generated;
 // further: mod loading;

@@ -17,13 +17,3 @@ pub(crate) fn ends(rt: &impl Abort, ran: &Ran<MemSink>, line: &str, written: &[u
     }
     assert!(rt; ran.sink.taken() == written, "{line}");
 }
-
-/// The line is one of these.
-pub(crate) fn is_one_of(line: &str, known: &[&str]) -> bool {
-    for one in known {
-        if *one == line {
-            return true;
-        }
-    }
-    false
-}

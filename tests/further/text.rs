@@ -1,7 +1,5 @@
-//! The source text of filters: worked examples, a fault at each kind of place, and
-//! failing allocations.
+//! The source text of filters: worked examples, and a fault at each kind of place.
 
-mod allocation;
 // further: mod cuts;
 // further: mod faults;
 // further: mod forms;

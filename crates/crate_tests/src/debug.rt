@@ -1,4 +1,0 @@
-//! The command `debug` over devices: refused allocations.
-
-mod allocation;
-// further: mod sessions;

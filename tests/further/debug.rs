@@ -1,0 +1,3 @@
+//! The command `debug` over devices.
+
+// further: mod sessions;
