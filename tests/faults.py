@@ -452,14 +452,15 @@ def recorder(world, n, size, begins):
 
 
 def unrecorded(world, n, begins):
-    """Bounds of how many frames of the other network came before a network's first line or after its last, of links that come on it."""
+    """Bounds of how many frames of the other network came before a network's first line or after its last, of links that come on it. Those of
+    a link without numbers may be told, or not."""
     ends, sure, maybe = world.flight.ends(n), 0, 0
     for sender in world.flight.senders:
-        if sender.both and sender.lanes[n] and not sender.blind:
+        if sender.both and sender.lanes[n]:
             have = {frame.place for frame in sender.lanes[n]}
             for frame in {one.place: one for one in sender.lanes[OTHER[n]] if one.place not in have}.values():
                 before = ends[0] - frame.stamp if begins else frame.stamp - ends[1]
-                sure += before > sender.skew
+                sure += before > sender.skew and not sender.blind
                 maybe += before > -sender.skew
     return sure, maybe
 
