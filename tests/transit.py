@@ -418,6 +418,7 @@ class Memory(Transit):
                 out.flush()
                 if is_held:
                     gate.wait(PATIENCE)
+                    gate.wait(PATIENCE)
         except (BrokenPipeError, threading.BrokenBarrierError):
             gate.abort()
 
@@ -439,6 +440,7 @@ class Memory(Transit):
         try:
             gate.wait(PATIENCE)
             most = peak_of(child)
+            gate.wait(PATIENCE)
         except threading.BrokenBarrierError:
             child.kill()
         child.communicate(timeout=PATIENCE)
