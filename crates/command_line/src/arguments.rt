@@ -291,6 +291,8 @@ pub struct TransitCutArguments<'a> {
     pub to: Option<&'a str>,
     /// How long after the first moment the last one is, in place of that.
     pub span: Option<&'a str>,
+    /// So many lines of the same link are taken before and after each selected one too.
+    pub around: u16,
     /// Does a recording go on with its next file behind one that ends within a packet, or is damaged?
     pub resumes: bool,
     /// Are the packets written as a pcapng file, with their outcomes as comments?
@@ -430,7 +432,6 @@ fn transit_cut_arguments<'a>(given: &ArgMatches<'a>) -> Result<TransitCutArgumen
         || cut.b.is_some()
         || cut.network.is_some()
         || cut.filters.is_some()
-        || cut.around > 0
         || cut.ledger_only;
     if is_of_watch {
         return Err(Misuse::OfWatch);
@@ -448,6 +449,7 @@ fn transit_cut_arguments<'a>(given: &ArgMatches<'a>) -> Result<TransitCutArgumen
         from: cut.from,
         to: cut.to,
         span: cut.span,
+        around: cut.around,
         resumes: cut.resumes,
         pcapng: cut.pcapng,
         output: cut.output,

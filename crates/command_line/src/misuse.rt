@@ -130,8 +130,8 @@ impl Misuse {
                  Give a number of microseconds, 0 to 1000000"
             }
             Misuse::OfWatch => {
-                "--a, --b, --network, --filters, --around and --ledger-only are for ledgers of watch\n  \
-                 Leave them out, or give a ledger of watch"
+                "--a, --b, --network, --filters and --ledger-only are for ledgers of watch\n  Leave them out, \
+                 or give a ledger of watch"
             }
             Misuse::TwoEnds => "--to and --span both end the span of time\n  Give one of them",
             _ => "a required argument is missing\n  Give it",

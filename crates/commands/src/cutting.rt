@@ -15,8 +15,8 @@ use pcap_io::{ReadSource, WriteSink};
 use pcapng::Interfaces;
 use std::io;
 use tap_inputs::{
-    Blocks, Cause, LiveInput, NO_RUN, Noting, Outcome, Reading, Skipped, TapFiles, Taps, end_of,
-    files_of, open, open_tap,
+    Blocks, Cause, Input, LiveInput, NO_RUN, Noting, Outcome, Reading, Skipped, TapFiles, Taps,
+    end_of, files_of, open, open_tap,
 };
 use vl_config::Config;
 
@@ -138,6 +138,18 @@ fn cut_packets(rt: &HostRuntime, files: CutDevices<'_>, format: PacketFormat<'_>
     }
 }
 
+/// The ledger, which is read once more for the lines around those that are selected: no pipe.
+pub fn open_twice(rt: &HostRuntime, ledger: &str) -> Result<Input, Outcome> {
+    let opened = open(rt, ledger, FileOption::Ledger)?;
+    if is_standard(ledger) || opened.length(rt).is_none() {
+        return Err(Outcome::from(Fault::Selection {
+            option: SelectionOption::Around,
+            item: 0,
+        }));
+    }
+    Ok(opened)
+}
+
 /// The lines around those that are selected, where such are asked for. The ledger is read for that.
 fn neighbours(
     rt: &HostRuntime,
@@ -147,13 +159,7 @@ fn neighbours(
     if given.around == 0 {
         return Ok(None);
     }
-    let ledger = open(rt, given.ledger, FileOption::Ledger)?;
-    if is_standard(given.ledger) || ledger.length(rt).is_none() {
-        return Err(Outcome::from(Fault::Selection {
-            option: SelectionOption::Around,
-            item: 0,
-        }));
-    }
+    let ledger = open_twice(rt, given.ledger)?;
     let around = u32::from(given.around);
     let NeighboursRun { outcome, ledger } = neighbours_of(
         rt.alloc(),

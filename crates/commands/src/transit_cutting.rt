@@ -1,4 +1,5 @@
 //! The frames of a ledger of transits' lines, cut from the recordings of a switch.
+use crate::cutting::open_twice;
 use crate::files::refuse_shared;
 use crate::inputs::{MAX_LATE, is_at_terminal, table_of};
 use crate::outputs::create;
@@ -7,14 +8,14 @@ use command_line::{
     CutArguments, Exit, Fault, FileOption, Invocation, SelectionOption, TransitCutArguments,
     selection_of,
 };
-use ledger_text::Selection;
+use ledger_text::{Neighbours, Selection};
 use pcap_io::{ReadSource, WriteSink};
 use tap_inputs::{
     Blocks, Cause, Input, Noting, Outcome, Skipped, TapFiles, Taps, end_of, open, open_both,
 };
 use transit_cut::{
-    OutcomeSet, TransitCutFault, TransitCutRun, TransitFormat, TransitSelection,
-    cut_transits as cut_by,
+    OutcomeSet, TransitChoice, TransitCutFault, TransitCutRun, TransitFormat, TransitNeighboursRun,
+    TransitSelection, cut_transits as cut_by, transit_neighbours_of,
 };
 use vl_config::Config;
 
@@ -70,6 +71,34 @@ fn transit_selection(
     })
 }
 
+/// The lines around those that are selected, where such are asked for. The ledger is read for that.
+fn neighbours(
+    rt: &HostRuntime,
+    given: &TransitCutArguments<'_>,
+    selection: &TransitSelection,
+) -> Result<Option<Neighbours>, Outcome> {
+    if given.around == 0 {
+        return Ok(None);
+    }
+    let ledger = open_twice(rt, given.ledger)?;
+    let TransitNeighboursRun { outcome, ledger } = transit_neighbours_of(
+        rt.alloc(),
+        selection,
+        u32::from(given.around),
+        ReadSource::new(Noting::new(ledger)),
+    );
+    match outcome {
+        Ok(found) => Ok(Some(found)),
+        Err(fault) => Err(Outcome {
+            cause: ledger
+                .into_reader()
+                .refused()
+                .map(|error| Cause::System(error)),
+            ..Outcome::from(Fault::TransitCut(fault))
+        }),
+    }
+}
+
 /// The recording that isn't given, of which no frame is taken.
 fn skipped_side(given: &TransitCutArguments<'_>) -> Option<Network> {
     match (given.before, given.after) {
@@ -100,14 +129,19 @@ pub fn cut_transits(
     let config = table_of(rt, given.config)?;
     let config = config.as_ref();
     let selection = transit_selection(rt, given, config)?;
+    let choice = TransitChoice {
+        selection: &selection,
+        neighbours: neighbours(rt, given, &selection)?,
+        skips: skipped_side(given),
+    };
     let ledger = ReadSource::new(Noting::new(open(rt, given.ledger, FileOption::Ledger)?));
     let recordings = open_both(rt, (given.before, given.after), taps, MAX_LATE)?;
     refuse_shared(rt, Invocation::TransitCut(*given), taps)?;
     let output = WriteSink::new(create(rt, given.output, FileOption::Output)?);
     let run = cut_by(
         rt.alloc(),
-        &selection,
-        (skipped_side(given), MAX_LATE),
+        choice,
+        MAX_LATE,
         ledger,
         recordings,
         format_by(given, config),

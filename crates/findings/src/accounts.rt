@@ -62,7 +62,7 @@ pub struct Facts {
     /// The skew or interval of a link before and after a change.
     pub before: Option<Long>,
     pub after: Long,
-    /// The greatest skew of a late frame, or time between two equal ones.
+    /// The greatest skew of a late frame, time between two equal ones, or time that an early frame lacks.
     pub most: Long,
     /// The skew of the latest late frame.
     pub skew: Long,

@@ -1,6 +1,6 @@
 //! The claims of one cause to another's signs, once the ledger has ended.
 use crate::accounts::{Account, Handle, Span};
-use crate::clocks::DriftFound;
+use crate::clocks::{DriftFound, share};
 use crate::flight::Flight;
 use crate::kind::Kind;
 use crate::link::LinkState;
@@ -89,6 +89,28 @@ impl Flight {
             self.claim_late_of_bunched(links, network)?;
         }
         self.claim_late_of_moved(links)?;
+        self.claim_late_of_apart(links)
+    }
+
+    /// Recordings without a common time have no copies of each other's frames: none is late.
+    fn claim_late_of_apart(&mut self, links: &[LinkState]) -> Result<(), AllocError> {
+        let (a, b) = (&self.networks.a, &self.networks.b);
+        let (Some(first_a), Some(first_b)) = (a.first, b.first) else {
+            return Ok(());
+        };
+        let later = if first_b > a.last.unwrap_or(first_a) {
+            Network::B
+        } else if first_a > b.last.unwrap_or(first_b) {
+            Network::A
+        } else {
+            return Ok(());
+        };
+        let begins = self.accounts.of_network(Kind::Begins, later)?;
+        for link in links {
+            for side in [Side::A, Side::B] {
+                self.claim(begins, link.place, Kind::Late, side)?;
+            }
+        }
         Ok(())
     }
 
@@ -192,7 +214,23 @@ impl Flight {
         if self.accounts.find(link.place, Kind::Excess, fast).is_none() {
             self.claim(drift, link.place, Kind::Excess, slow)?;
         }
+        if self.is_early_by(found, link, slow) {
+            self.claim(drift, link.place, Kind::Early, slow)?;
+        }
         Ok(())
+    }
+
+    /// Did no frame of the link's on the slower clock's network come earlier than by what that clock loses in a
+    /// BAG? Twice as much may be, since the drift is measured, and two grains of the timestamps.
+    fn is_early_by(&self, found: &DriftFound, link: &LinkState, slow: Side) -> bool {
+        let Some(early) = self.accounts.find(link.place, Kind::Early, slow) else {
+            return false;
+        };
+        let grain = slow
+            .network()
+            .map_or(ZERO, |network| self.networks.of(network).grain);
+        let by_drift = share(found.parts.abs(), link.bag, SECOND) + grain;
+        self.accounts.facts(early).most <= by_drift * 2
     }
 
     /// The account of timestamps that are too coarse, if they are.
@@ -267,7 +305,26 @@ impl Flight {
         let (side, most) = (Side::of(network), self.accounts.sum(cut, Word::Cut));
         for alone in [false, true] {
             if self.missing_on(links, side, alone) <= most {
-                return self.claim_missing(cut, links, side, alone);
+                self.claim_missing(cut, links, side, alone)?;
+                break;
+            }
+        }
+        self.claim_never_whole(cut, links, side)
+    }
+
+    /// A link without a whole frame there is no one that never came, where the recorder cut as many frames.
+    fn claim_never_whole(
+        &mut self,
+        cut: Handle,
+        links: &[LinkState],
+        side: Side,
+    ) -> Result<(), AllocError> {
+        let most = self.accounts.sum(cut, Word::Cut);
+        for link in links {
+            let alone = self.own_count(link.place, Kind::NeverOn, side, Word::Alone);
+            let claimed = self.accounts.sum(cut, Word::Alone);
+            if alone > 0 && claimed.saturating_add(alone) <= most {
+                self.claim(cut, link.place, Kind::NeverOn, side)?;
             }
         }
         Ok(())
@@ -424,8 +481,10 @@ impl Flight {
             }
         }
         for &network in NETWORKS.iter() {
+            self.claim_nothing_left(link.place, Side::of(network))?;
             self.claim_nothing_lost(link.place, Side::of(network))?;
         }
+        self.claim_begun_anew(link.place)?;
         for &network in NETWORKS.iter() {
             self.claim_late_of_reordered(link.place, Side::of(network))?;
         }
@@ -477,6 +536,45 @@ impl Flight {
         };
         let whole = self.accounts.of_link(link, kind, side)?;
         self.claim(whole, link, Kind::Lost, side)
+    }
+
+    /// Old numbers that showed what another account tells, and skipped ones that came, are none: what else
+    /// their frames show is of that account, or of the loss.
+    fn claim_nothing_left(&mut self, link: usize, side: Side) -> Result<(), AllocError> {
+        let shown = [Kind::Jump, Kind::Stuck];
+        let mut told = shown
+            .iter()
+            .filter(|kind| self.accounts.find(link, **kind, side).is_some());
+        let of_old = told.next().copied().unwrap_or(Kind::Out);
+        let rows = [
+            (Kind::Old, Word::Repeat, of_old),
+            (Kind::Skipped, Word::Skipped, Kind::Lost),
+        ];
+        for (kind, word, cause) in rows {
+            let is_empty = self.own_count(link, kind, side, word) == 0;
+            if self.accounts.find(link, kind, side).is_some() && is_empty {
+                let whole = self.accounts.of_link(link, cause, side)?;
+                self.claim(whole, link, kind, side)?;
+            }
+        }
+        Ok(())
+    }
+
+    /// A link that pauses once and begins anew after it has one cause.
+    fn claim_begun_anew(&mut self, link: usize) -> Result<(), AllocError> {
+        let outage = self.accounts.find(link, Kind::Outage, Side::Both);
+        let reset = self.accounts.find(link, Kind::Reset, Side::Both);
+        let (Some(outage), Some(reset)) = (outage, reset) else {
+            return Ok(());
+        };
+        let (Some(pause), Some(anew)) = (self.accounts.span(outage), self.accounts.span(reset)) else {
+            return Ok(());
+        };
+        let is_once = self.accounts.sum(outage, Word::Outage) == 1;
+        if is_once && (anew.from - pause.to).is_within(SECOND) && anew.length() <= SECOND {
+            self.claim(outage, link, Kind::Reset, Side::Both)?;
+        }
+        Ok(())
     }
 
     /// Few late frames beside reordered ones are late by that.
@@ -592,6 +690,10 @@ impl Flight {
                 held.parts = held.parts.max(parts);
                 if held.spans.is_empty() {
                     held.spans = spans;
+                } else if held.spans.len() == spans.len() {
+                    for (span, other) in held.spans.iter_mut().zip(spans.iter()) {
+                        *span = span.with(*other);
+                    }
                 }
             }
             self.claim(whole, link, kind, side)?;

@@ -314,7 +314,7 @@ impl Clocks {
 }
 
 /// A part of a number: so many of so many.
-fn share(number: Long, part: Long, of: Long) -> Long {
+pub fn share(number: Long, part: Long, of: Long) -> Long {
     let product = i128::from(number.0).saturating_mul(i128::from(part.0));
     let share = product.checked_div(i128::from(of.0)).unwrap_or(0);
     Long(i64::try_from(share).unwrap_or(i64::MAX))

@@ -145,11 +145,16 @@ impl LinkState {
         note_unrecorded(flight, network, Kind::Ends, last, after_end)?;
         if self.lane(network).repeats_half() {
             self.note_behind(flight, network, Kind::NoNumber, since, missing)
-        } else if missing < SOME {
+        } else if missing < SOME || self.is_on_at(network, last) {
             self.note_behind(flight, network, Kind::Lost, since, missing)
         } else {
             self.note_stop_on(flight, network, since, missing)
         }
+    }
+
+    /// Does a network have the link's frames up to its last line, as far as 8 intervals tell?
+    fn is_on_at(&self, network: Network, last: Time) -> bool {
+        last - self.lane(network).latest < self.rate.usual().max(self.bag) * 8
     }
 
     /// How many frames of the other network came after a network's last line, SkewMax allowed: of those that

@@ -180,6 +180,9 @@ pub struct Lane {
     /// The latest old number, and how many in a row went on from it.
     pub old_number: Option<u8>,
     pub old_run: u32,
+    /// The latest number that didn't fit, and how many frames in a row have it.
+    still_number: u8,
+    still_run: u32,
     /// The accounts of the latest sign, of the latest missing numbers, and of the latest strange ones since a
     /// number was taken, with how many.
     pub last: Option<Handle>,
@@ -219,6 +222,8 @@ impl Lane {
             repeats: 0,
             old_number: None,
             old_run: 0,
+            still_number: 0,
+            still_run: 0,
             last: None,
             loss: None,
             strange: None,
@@ -261,6 +266,22 @@ impl Lane {
         if self.ahead == Long(1) {
             self.ahead_since = Some(at);
         }
+    }
+
+    /// Notes a number that doesn't fit. How many frames in a row have it.
+    pub fn note_still(&mut self, number: u8) -> u32 {
+        self.still_run = if number == self.still_number {
+            self.still_run.saturating_add(1)
+        } else {
+            1
+        };
+        self.still_number = number;
+        self.still_run
+    }
+
+    /// A number fits.
+    pub fn forget_still(&mut self) {
+        self.still_run = 0;
     }
 
     /// Is the last byte of its frames no number: at least half of them had one that came before, and it went

@@ -3,6 +3,7 @@ use crate::accounts::Span;
 use crate::long::{Long, Time, ZERO};
 use crate::recorder::RecorderFacts;
 use std::alloc::{AllocError, Global};
+use std::mem;
 
 /// So many pauses are kept, each longer than all later ones.
 const PAUSES: usize = 64;
@@ -137,6 +138,14 @@ impl NetworkState {
     /// Is a pause at least 8 times as long as usual?
     pub fn is_long(&self, length: Time) -> bool {
         length * (MEAN_OF / 8) >= self.mean
+    }
+
+    /// The links outside the table, those with the most frames first.
+    pub fn take_outside(&mut self, alloc: Global) -> Vec<Outside> {
+        let mut outside = mem::replace(&mut self.outside, Vec::new(alloc));
+        let key = |one: &Outside| (u64::MAX - one.frames, one.id);
+        outside.as_mut_slice().sort_unstable_by_key(key);
+        outside
     }
 
     /// Notes a frame of a link that the table doesn't have.

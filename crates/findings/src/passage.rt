@@ -35,6 +35,8 @@ pub struct Passage {
     pub guess: Guess,
     /// Did neither network have a frame of the link?
     pub sender: bool,
+    /// Do the numbers begin anew with the second?
+    pub anew: bool,
 }
 
 impl Passage {
@@ -86,8 +88,11 @@ impl Passage {
         Ok(Some(account))
     }
 
-    /// Does a pause of the network explain what is missing?
+    /// Does a pause of the network explain what is missing? It doesn't where a sender that was off begins anew.
     fn is_by(&self, flight: &Flight, link: &LinkState, pause: Pause) -> bool {
+        if self.anew && !self.misses() {
+            return false;
+        }
         let typical = link.rate.typical();
         let length = pause.length;
         if !flight.networks.of(self.network).is_long(length) {

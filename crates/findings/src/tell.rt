@@ -112,7 +112,7 @@ fn weight(kind: Kind, sum: &Sum, links: u64) -> (u64, Level) {
         Kind::Bunched if count(Word::Excess) > 0 => (close, Level::Trouble),
         Kind::Bunched => (close, Level::Notice),
         Kind::TooLong => (count(Word::TooLong), Level::Trouble),
-        Kind::Reset => (count(Word::Reset), Level::Notice),
+        Kind::Reset => (resets(&sum.signs), Level::Notice),
         Kind::Stray | Kind::Old if missing > 0 && missing == numbers => (
             missing,
             scattered(missing, sum.frames),
@@ -122,8 +122,7 @@ fn weight(kind: Kind, sum: &Sum, links: u64) -> (u64, Level) {
             scattered(count(Word::Stray), sum.frames),
         ),
         Kind::Old | Kind::Twice => (count(Word::Repeat), Level::Notice),
-        Kind::Stuck => (count(Word::Repeat), Level::Trouble),
-        Kind::NoNumber => (numbers, Level::Trouble),
+        Kind::Stuck | Kind::NoNumber => (numbers, Level::Trouble),
         Kind::Late => (count(Word::Late), scattered(count(Word::Late), sum.frames)),
         Kind::Apart => (1, Level::Trouble),
         Kind::Skipped => (count(Word::Skipped), Level::Notice),
@@ -133,6 +132,12 @@ fn weight(kind: Kind, sum: &Sum, links: u64) -> (u64, Level) {
         Kind::Out => (count(Word::Out), Level::Notice),
         _ => (sum.total(), Level::Notice),
     }
+}
+
+/// How often numbers begin anew: each time on both networks, or on one.
+fn resets(signs: &Signs) -> u64 {
+    let on = |network| signs.count(Sign::on(Word::Reset, network));
+    on(Network::A).max(on(Network::B))
 }
 
 impl Sum {
@@ -337,8 +342,8 @@ impl Telling<'_> {
             return Ok(());
         };
         let mut sum = self.sum_of(account)?;
-        let count = sum.total();
-        if count == 0 {
+        let count = sum.signs.sum(Word::Unrecorded);
+        if sum.total() == 0 {
             return Ok(());
         }
         sum.span = Some(span);
@@ -524,6 +529,7 @@ impl Telling<'_> {
             let (_, spans) = self.flight.accounts.take_parts(first.account);
             if let Some(finding) = self.latest() {
                 finding.spans = spans;
+                finding.anew = first.kind == Kind::Outage && finding.signs.sum(Word::Reset) > 0;
             }
         }
         Ok(())
@@ -641,7 +647,9 @@ fn common_weight(kind: Kind, sum: &Sum, links: u64) -> (u64, Level, bool) {
         Kind::Drift => (1, Level::Notice, false),
         Kind::SkewStep if sum.signs.sum(Word::Late) == 0 => (1, Level::Notice, false),
         Kind::SkewStep => (1, Level::Trouble, false),
-        Kind::StartsLate | Kind::StartsLateOn | Kind::SkewMoves => (links, Level::Notice, true),
+        Kind::StartsLate | Kind::StartsLateOn | Kind::SkewMoves | Kind::Reset => {
+            (links, Level::Notice, true)
+        }
         _ => (links, Level::Trouble, true),
     }
 }
@@ -728,7 +736,7 @@ pub fn findings_of(
         all,
         totals,
         levels,
-        outside_a: mem::replace(&mut flight.networks.a.outside, Vec::new(alloc)),
-        outside_b: mem::replace(&mut flight.networks.b.outside, Vec::new(alloc)),
+        outside_a: flight.networks.a.take_outside(alloc),
+        outside_b: flight.networks.b.take_outside(alloc),
     })
 }

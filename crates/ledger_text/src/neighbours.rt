@@ -60,9 +60,9 @@ impl Neighbours {
         }
     }
 
-    /// Notes the ledger's next line, which is of this link.
+    /// Notes the ledger's next line, which is of this link, as [`note`](Neighbours::note) does.
     #[inline]
-    fn note_link(&mut self, id: VlId, selected: bool) -> Result<(), AllocError>
+    pub fn note_link(&mut self, id: VlId, selected: bool) -> Result<(), AllocError>
         ensures { (selection : Selection) (lines : List FrameLine) (v : FrameLine) → length lines < MAX_LINES
             → HasNoted selection (record { count = self.old.around; lines = lines }) self.old
             → v.link ≡ Some id
@@ -77,7 +77,7 @@ impl Neighbours {
 
     /// Is the ledger's next line, which is of this link, near a selected one?
     #[inline]
-    pub(crate) fn is_near(&mut self, id: VlId) -> bool
+    pub fn is_near(&mut self, id: VlId) -> bool
         ensures { (selection : Selection) (around : Around) (before : List FrameLine) (v : FrameLine)
             → length before < MAX_LINES
             → HasAskedLinks selection around before self.old

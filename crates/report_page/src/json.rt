@@ -126,7 +126,8 @@ impl Json {
     /// A text of whatever characters.
     fn text(&mut self, name: &str, text: &Page) {
         self.name(name);
-        self.page.quoted(text.written());
+        let text = self.page.written_on(text);
+        self.page.quoted(text);
     }
 
     /// How many signs there are, by word and network.

@@ -24,7 +24,8 @@ const AT_ONCE: i64 = 100_000_000;
 
 const SILENCE: &str = "\
 $b$$?two$Networks A and B$/$$?one$Network $n$$/$ silent$e$ for $long$, from $from$ to $to$: \
-$?least$at least $/$$lost$ numbers of $links$ links are missing$?est$ ($est$ of them estimated)$/$";
+$?least$at least $/$$lost$ numbers of $links$ link$links_s$ are missing$?est$ ($est$ of them estimated)$/$\
+$?two$: $lost_a$ on A, $lost_b$ on B, $both$ of them on both$/$";
 
 const CLOCK_STEP: &str = "\
 $b$$?two$The clocks of A and B$/$$?one$The clock of $n$$/$ went forward by $size$$e$ at $from$\
@@ -37,7 +38,8 @@ became longer$?late$; $late$ frames are late by it$/$";
 
 const DRIFT: &str = "\
 $b$The clocks of the taps drift$e$: that of $n$ is $ppm$ ppm faster$?late$; $late$ frames are late by it$/$\
-$?excess$; $excess$ are excess by it$/$. Synchronise them (PTP), or judge short parts";
+$?excess$; $excess$ are excess by it$/$$?early$; $early$ are early by it$/$. Synchronise them (PTP), or judge \
+short parts";
 
 const COARSE: &str = "\
 $b$All timestamps are multiples of $size$$e$: what jitter, skew and policing say isn't known ($excess$ \
@@ -54,6 +56,15 @@ $?near$$count$ frame$s$ at the very start $have$ no copy on $n$: the recordings 
 const ENDS: &str = "\
 $?far$$b$Recording $n$ ends $long$ before the other$e$: $count$ frame$s$ of $o$ $have$ no copy in it$/$\
 $?near$$count$ frame$s$ at the very end $have$ no copy on $n$: the recordings end $long$ apart$/$";
+
+const BEGINS_IN_PART: &str = "\
+$b$Network $n$ has no frame in the first $long$ that are told$e$: $count$ frame$s$ of $o$ $have$ no copy";
+
+const ENDS_IN_PART: &str = "\
+$b$Network $n$ has no frame in the last $long$ that are told$e$: $count$ frame$s$ of $o$ $have$ no copy";
+
+const NO_FRAMES_IN_PART: &str = "\
+$b$$?two$The part has no frame$/$$?one$Network $n$ has no frame in the part$/$$e$";
 
 const TORN: &str = "\
 $b$Recording $n$ lacks $?many$$times$ parts$/$$?once$a part$/$$e$ (@spans@), since files of it are torn: \
@@ -76,7 +87,7 @@ judged$/$";
 
 const CUT: &str = "\
 $b$$count$ frame$s$ on $n$ $are$ cut short by the recorder$e$$?lost$; $lost$ missing number$lost_s$ there \
-may be due to that$/$";
+may be due to that$/$$?never$; $never$ frames came whole on $o$ only, of links that have none on $n$$/$";
 
 const RUNT: &str = "$b$$count$ frame$s$ on $n$ $are$ below 60 bytes$e$ (runt)";
 
@@ -96,13 +107,14 @@ $?alone$; $alone$ of them came on $o$$/$$?both$; $both$ came on neither network$
 
 const ABSENT: &str = "\
 $b$@who@ absent from $n$$e$ $?many$$times$ times $/$(@spans@): $?least$at least $/$$lost$ numbers are missing\
-$?est$ ($est$ of them estimated)$/$$?alone$; $alone$ of them came on $o$$/$$?both$; $both$ came on neither \
-network$/$";
+$?est$ ($est$ of them estimated)$/$$?two$: $lost_a$ on A, $lost_b$ on B, $both$ of them on both$/$\
+$?one$$?alone$; $alone$ of them came on $o$$/$$?both$; $both$ came on neither network$/$$/$";
 
 const OUTAGE: &str = "\
 $b$$?together$$links$ links pause at the same time: $/$@who@$e$$?alone$ $/$$?single$ pauses $count$ \
 time$s$$/$ \
-(@spans@)$?anew$, and begin anew with number 0$/$: the numbers go on, so the sender paused";
+(@spans@)$?anew$, and begin$?single$s$/$ anew with number 0: the sender was off$/$\
+$?same$: the numbers go on, so the sender paused$/$";
 
 const STOPS: &str =
     "$b$@who@ $?single$stops$/$$?several$stop$/$ at $from$$e$ on both networks$?usual$ (usual \
@@ -176,7 +188,7 @@ $b$The skew of @who@ moves$e$ at $from$, of one from $before$ to $after$: anothe
 $?late$; $late$ frames are late by it$/$";
 
 const APART: &str = "\
-$b$@who@: the networks count apart$e$ from $from$ on$?single$ (A's number is B's and $size_number$)$/$\
+$b$@who@: the networks count apart$e$ from $from$ on$?single$ (B's number is A's and $size_number$)$/$\
 $?late$; $late$ frames are delivered twice by that$/$";
 
 const JUMP: &str = "\
@@ -223,6 +235,17 @@ fn template_of(kind: Kind) -> &'static str {
         Kind::Never => NEVER,
         Kind::NeverOn => NEVER_ON,
         _ => template_of_numbers(kind),
+    }
+}
+
+/// The template of a kind where a part of a ledger is told, or one that was stopped: where recordings begin
+/// and end isn't known.
+fn template_in_part(kind: Kind) -> &'static str {
+    match kind {
+        Kind::Begins => BEGINS_IN_PART,
+        Kind::Ends => ENDS_IN_PART,
+        Kind::NoFrames => NO_FRAMES_IN_PART,
+        _ => template_of(kind),
     }
 }
 
@@ -287,13 +310,17 @@ fn parts_of_count(finding: &Finding) -> [Named<'static>; 5] {
 }
 
 /// How many signs a finding has.
-fn parts_of_signs(finding: &Finding) -> [Named<'static>; 12] {
+fn parts_of_signs(finding: &Finding) -> [Named<'static>; 13] {
     let sum = |word| Grouped(finding.signs.sum(word));
     let lost = |network| Grouped(finding.signs.count(Sign::on(Word::Lost, network)));
+    let never = finding
+        .signs
+        .sum(Word::Alone)
+        .saturating_sub(finding.signs.sum(Word::Lost));
     parts! { count = Grouped(finding.count), lost = sum(Word::Lost), lost_a = lost(Network::A),
         lost_b = lost(Network::B), alone = sum(Word::Alone), both = sum(Word::Both), early = sum(Word::Early),
         excess = sum(Word::Excess), late = sum(Word::Late), toolong = sum(Word::TooLong),
-        unrecorded = sum(Word::Unrecorded), frames = Grouped(finding.frames) }
+        unrecorded = sum(Word::Unrecorded), frames = Grouped(finding.frames), never = Grouped(never) }
 }
 
 /// The facts of a finding beside its signs, by name.
@@ -314,7 +341,7 @@ fn parts_of_facts(finding: &Finding) -> [Named<'static>; 12] {
 }
 
 /// The words on how often it happened and to which links, by name.
-fn parts_of_links(finding: &Finding) -> [Named<'static>; 14] {
+fn parts_of_links(finding: &Finding) -> [Named<'static>; 16] {
     let rate = finding.rate.as_ref().filter(|_| finding.links.len() == 1);
     let time = |of: Option<u64>| of.map_or(Text(""), |time| Duration(time));
     let skew = rate
@@ -324,7 +351,8 @@ fn parts_of_links(finding: &Finding) -> [Named<'static>; 14] {
     let every = finding.of_links >= 3 && finding.kind == Kind::Twice;
     parts! { links = Number(finding.of_links), times = Number(finding.times), many = flag(finding.times > 1),
         once = flag(finding.times <= 1),
-        together = flag(finding.together), anew = flag(finding.anew), every = flag(every),
+        together = flag(finding.together), anew = flag(finding.anew), same = flag(!finding.anew),
+        every = flag(every), links_s = form(finding.of_links, "", "s"),
         bag = time(rate.map(|rate| rate.bag)), jitter = time(rate.map(|rate| rate.jitter)),
         usual = time(rate.and_then(|rate| rate.interval)),
         skew_max = time(finding.rate.as_ref().map(|rate| rate.skew_max)),
@@ -431,9 +459,9 @@ struct Parts {
     word: [Named<'static>; 1],
     place: [Named<'static>; 9],
     count: [Named<'static>; 5],
-    signs: [Named<'static>; 12],
+    signs: [Named<'static>; 13],
     facts: [Named<'static>; 12],
-    links: [Named<'static>; 14],
+    links: [Named<'static>; 16],
 }
 
 impl Parts {
@@ -480,8 +508,11 @@ pub fn push_sentence(
     linked: bool,
 ) {
     let parts = Parts::of(view, finding);
+    let is_part = view.zoom.is_part() || !view.report.whole && finding.kind == Kind::Ends;
     let template = if finding.is_rest {
         REST
+    } else if is_part {
+        template_in_part(finding.kind)
     } else {
         template_of(finding.kind)
     };

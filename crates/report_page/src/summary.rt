@@ -75,7 +75,8 @@ fn push_finding(page: &mut Page, alloc: Global, view: &View<'_>, finding: &Findi
     text.text(if is_new(view, finding) { "new: " } else { "" });
     push_sentence(&mut text, view, finding, ("", ""), false);
     page.level(word_of(finding.level));
-    push_wrapped(page, text.written());
+    let text = page.written_on(&text);
+    push_wrapped(page, text);
 }
 
 /// How many findings beyond those that are told have a level.
@@ -153,7 +154,8 @@ fn push_gone(page: &mut Page, alloc: Global, view: &View<'_>, before: &View<'_>)
         let mut text = Page::plain(alloc);
         push_sentence(&mut text, before, finding, ("", ""), false);
         page.level("gone");
-        push_wrapped(page, text.written());
+        let text = page.written_on(&text);
+        push_wrapped(page, text);
     }
 }
 

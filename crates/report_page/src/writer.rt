@@ -135,9 +135,10 @@ impl Page {
         }
     }
 
-    /// The text that was written so far.
-    pub fn written(&self) -> &str {
-        &self.written
+    /// The text of another page, for this one to append: where an append failed there, it failed here.
+    pub fn written_on<'a>(&mut self, other: &'a Page) -> &'a str {
+        self.failed |= other.failed;
+        &other.written
     }
 
     /// The text that was written.

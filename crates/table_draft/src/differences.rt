@@ -89,11 +89,26 @@ fn of_flag(key: Key, specified: Option<bool>, seen: Option<bool>) -> Difference 
     of(key, specified.map(KeyValue::Flag), seen.map(KeyValue::Flag))
 }
 
+/// The jitter at the BAG that was seen, and how that which the frames need at the specified BAG stands to the
+/// specified one. Where only the BAG differs, the jitter that goes with it stands as it does.
+fn of_jitter(specified: &IcdLink, seen: &Seen, bag: Stand) -> Difference {
+    let needed = of_number(Key::JitterUs, specified.jitter_us, seen.needed_us);
+    let own = of_number(Key::JitterUs, specified.jitter_us, seen.jitter_us);
+    if needed.stand == Stand::Same && own.stand != Stand::Same {
+        return Difference { stand: bag, ..own };
+    }
+    Difference {
+        stand: needed.stand,
+        ..own
+    }
+}
+
 /// How the values of a link that were seen stand to those that are specified.
 pub fn differences(specified: &IcdLink, seen: &Seen) -> [Difference; COMPARED] {
+    let bag = of_number(Key::BagMs, specified.bag_ms, seen.bag_ms);
     [
-        of_number(Key::BagMs, specified.bag_ms, seen.bag_ms),
-        of_number(Key::JitterUs, specified.jitter_us, seen.jitter_us),
+        bag,
+        of_jitter(specified, seen, bag.stand),
         of_number(Key::Smax, specified.smax, seen.smax),
         of_flag(Key::Integrity, specified.integrity, seen.integrity),
         of_flag(Key::Redundancy, specified.redundancy, seen.redundancy),

@@ -28,7 +28,9 @@ pub struct Drafted {
 #[derive(Clone, Copy)]
 pub struct Seen {
     pub bag_ms: Option<u64>,
+    /// The jitter at this BAG, and that which the frames need at the draft's.
     pub jitter_us: Option<u64>,
+    pub needed_us: Option<u64>,
     pub smax: Option<u64>,
     pub integrity: Option<bool>,
     pub redundancy: Option<bool>,
@@ -102,13 +104,14 @@ impl Known<'_> {
         }
     }
 
-    /// The values of a link by its frames, at the draft's BAG. Where one network alone is recorded
-    /// they don't say whether the other brings the link too.
+    /// The values of a link by its frames, beside the draft's BAG. Where one network alone is recorded they
+    /// don't say whether the other brings the link too.
     pub fn seen_beside(&self, bag_ms: u64, both: bool) -> Seen {
         let Some(link) = self.seen else {
             return Seen {
                 bag_ms: None,
                 jitter_us: None,
+                needed_us: None,
                 smax: None,
                 integrity: None,
                 redundancy: None,
@@ -121,7 +124,8 @@ impl Known<'_> {
         let has_copies = link.copies.count > 0;
         Seen {
             bag_ms: given_if(has_gaps, estimate.bag_ms),
-            jitter_us: given_if(has_gaps, jitter_us(link, bag_ms)),
+            jitter_us: given_if(has_gaps, estimate.jitter_us),
+            needed_us: given_if(has_gaps, jitter_us(link, bag_ms)),
             // A draft's Smax is rounded up, and isn't what was seen.
             smax: Some(greatest_size(link)),
             integrity: given_if(has_steps, estimate.integrity),

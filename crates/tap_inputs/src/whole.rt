@@ -79,11 +79,13 @@ impl WholePackets {
         self.is_damaged && self.whole <= FILE_HEADER_LEN
     }
 
-    /// The part that follows the whole packets, now that the file has ended.
+    /// The part that follows the whole packets, now that the file has ended. A file that ends within its
+    /// header has no packets: the recording ends there.
     pub fn torn(&self) -> Option<Torn> {
+        let has_header = !matches!(self.form, Form::New);
         if self.is_damaged {
             Some(Torn::Damaged)
-        } else if self.whole < self.held.len() {
+        } else if has_header && self.whole < self.held.len() {
             Some(Torn::Cut)
         } else {
             None

@@ -34,6 +34,9 @@ const MAX_DRIFT: u64 = 1_000_000_000;
 /// So many links at least tell a drift.
 const LEAST_LINKS: usize = 4;
 
+/// A drift holds in each quarter of the time.
+const QUARTERS: usize = 4;
+
 /// How much longer one time is than another, in parts in 10^12 of it.
 fn parts_of(longer: u64, shorter: u64) -> u64 {
     let more = u128::from(longer.saturating_sub(shorter)) * 1_000_000_000_000;
@@ -41,15 +44,22 @@ fn parts_of(longer: u64, shorter: u64) -> u64 {
     parts.min(u128::from(u64::MAX)) as u64
 }
 
-/// How fast the clocks move apart between two frames that both taps have seen: the parts by which the time on
-/// A is longer than that on B, and the other way round. None: that can't be told.
+/// How fast the clocks move apart from one moment to another: the parts by which the time on A is longer than
+/// that on B, and the other way round.
+fn rate_between(first: Meeting, last: Meeting) -> Meeting {
+    let on_a = last.a.saturating_sub(first.a);
+    let on_b = last.b.saturating_sub(first.b);
+    Meeting {
+        a: parts_of(on_a, on_b),
+        b: parts_of(on_b, on_a),
+    }
+}
+
+/// How fast the clocks move apart between two frames that both taps have seen. None: that can't be told.
 fn rate_of(first: Meeting, last: Meeting) -> Option<Meeting> {
     let on_a = last.a.saturating_sub(first.a);
     let on_b = last.b.saturating_sub(first.b);
-    let rate = Meeting {
-        a: parts_of(on_a, on_b),
-        b: parts_of(on_b, on_a),
-    };
+    let rate = rate_between(first, last);
     if on_a < LEAST_TIME || on_b < LEAST_TIME || rate.a.max(rate.b) > MAX_DRIFT {
         None
     } else {
@@ -57,7 +67,48 @@ fn rate_of(first: Meeting, last: Meeting) -> Option<Meeting> {
     }
 }
 
-/// The rates that the links with redundancy management on tell.
+/// The mean moments of some frames that both taps have seen.
+fn mean_of(meetings: &[Meeting]) -> Meeting {
+    let (mut a, mut b) = (0u128, 0u128);
+    for meeting in meetings {
+        a = a.saturating_add(u128::from(meeting.a));
+        b = b.saturating_add(u128::from(meeting.b));
+    }
+    let count = meetings.len().max(1) as u128;
+    Meeting {
+        a: (a / count).min(u128::from(u64::MAX)) as u64,
+        b: (b / count).min(u128::from(u64::MAX)) as u64,
+    }
+}
+
+/// Are two numbers no further apart than so much of the greater: a half, or a quarter?
+fn are_near(one: u64, other: u64, part: u64) -> bool {
+    one.abs_diff(other) <= one.max(other) / part.max(1)
+}
+
+/// Do two rates tell nearly the same drift?
+fn are_alike(one: Meeting, other: Meeting) -> bool {
+    are_near(one.a, other.a, 4) && are_near(one.b, other.b, 4)
+}
+
+/// Do the clocks of a link move apart from each quarter of its frames to the next, by at least half as fast as
+/// from the first to the last, and at most twice? A step moves them in one quarter alone.
+fn is_steady(meetings: &[Meeting]) -> bool {
+    let mut means = [Meeting { a: 0, b: 0 }; QUARTERS];
+    let count = meetings.len();
+    for quarter in 0..QUARTERS {
+        let from = count.saturating_mul(quarter) / QUARTERS;
+        let to = count.saturating_mul(quarter + 1) / QUARTERS;
+        means[quarter] = mean_of(meetings.get(from..to).unwrap_or(&[]));
+    }
+    let whole = rate_between(means[0], means[QUARTERS - 1]);
+    (1..QUARTERS).all(|quarter| {
+        let rate = rate_between(means[quarter - 1], means[quarter]);
+        are_near(rate.a, whole.a, 2) && are_near(rate.b, whole.b, 2)
+    })
+}
+
+/// The rates that the links with redundancy management on tell: 0 where the clocks don't move apart steadily.
 fn rates_of(alloc: Global, inputs: &Inputs<'_>) -> Result<Vec<Meeting>, AllocError> {
     let mut rates = Vec::new(alloc);
     for (link, tally) in inputs.links().iter().zip(inputs.tallies()) {
@@ -66,21 +117,16 @@ fn rates_of(alloc: Global, inputs: &Inputs<'_>) -> Result<Vec<Meeting>, AllocErr
         }
         if let (Some(first), Some(last)) = (tally.meeting(), tally.last_meeting()) {
             if let Some(rate) = rate_of(first, last) {
-                rates.push(rate)?;
+                let is_drift = is_steady(tally.course());
+                rates.push(if is_drift {
+                    rate
+                } else {
+                    Meeting { a: 0, b: 0 }
+                })?;
             }
         }
     }
     Ok(rates)
-}
-
-/// Are two numbers no further apart than a quarter of the greater?
-fn are_near(one: u64, other: u64) -> bool {
-    one.abs_diff(other) <= one.max(other) / 4
-}
-
-/// Do two rates tell nearly the same drift?
-fn are_alike(one: Meeting, other: Meeting) -> bool {
-    are_near(one.a, other.a) && are_near(one.b, other.b)
 }
 
 /// The rate that most others are like, and how many are.

@@ -135,11 +135,11 @@ fn show_lent<S: TapSource, O: Observer>(
     Ok(())
 }
 
-/// Reads both recordings once, as far as it is told, and shows their frames to the observer. Both sources come
-/// back.
+/// Reads both recordings once, as far as it is told, and shows their frames to the observer. Both sources
+/// come back.
 ///
-/// Where timestamps may lie below the greatest one before them, what is kept of the frames of so much time waits
-/// in memory.
+/// Where timestamps may lie below the greatest one before them, what is kept of the frames of so much time
+/// waits in memory.
 ///
 /// # Errors
 ///

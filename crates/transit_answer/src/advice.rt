@@ -16,6 +16,9 @@ const OTHER_TABLE: &str = "Name this network's table as --config";
 
 const DRIFT: &str = "Record both ports by one clock, as two ports of one recorder";
 
+const STEP: &str = "\
+Look at the switch's load, or record both ports by one clock that isn't set meanwhile";
+
 const SWAPPED: &str = "Swap --before and --after";
 
 const SAME_RECORDING: &str = "Name the recording of the port out as --after";
@@ -38,6 +41,9 @@ const REWRITTEN: &str = "Take both recordings of one flight, or compare a frame 
 
 const LOST: &str = "Look at what the recorder dropped (capinfos), or record again";
 
+/// The longest that `--early-us` takes.
+const MAX_EARLY_MICROS: u64 = 1_000_000;
+
 /// The advice on a question.
 #[derive(Clone, Copy)]
 pub struct QuestionAdvice<'a>(pub &'a Question);
@@ -56,6 +62,12 @@ fn write_shift<W: fmt::Write>(shift: i64, f: &mut Formatter<W>) -> fmt::Result {
     )
 }
 
+/// The words on frames that come out so much before they go in.
+fn write_early<W: fmt::Write>(lead: u64, f: &mut Formatter<W>) -> fmt::Result {
+    let micros = (lead / 500).min(MAX_EARLY_MICROS);
+    write!(f, "Give --early-us {micros}")
+}
+
 impl Display for QuestionAdvice<'_> {
     fn fmt<W: fmt::Write>(&self, f: &mut Formatter<W>) -> fmt::Result {
         let words = match *self.0 {
@@ -72,11 +84,13 @@ impl Display for QuestionAdvice<'_> {
                 let micros = within / 100;
                 return write!(f, "Give --within-us {micros}");
             }
+            Question::Early { lead } => return write_early(lead, f),
             Question::Cut(_) => WHOLE,
             Question::CheckSequence(_) => CHECK_SEQUENCES,
             Question::Constant => CONSTANT,
             Question::OtherTable => OTHER_TABLE,
             Question::Drift(_) => DRIFT,
+            Question::Step { .. } => STEP,
             Question::Swapped => SWAPPED,
             Question::SameRecording => SAME_RECORDING,
             Question::Twice(Side::Before) => TWICE_BEFORE,

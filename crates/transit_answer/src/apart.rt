@@ -57,6 +57,35 @@ fn differences(alloc: Global, before: &[Sample], after: &[Sample]) -> Result<Vec
     Ok(list)
 }
 
+/// The differences of the frames with unique bytes, in order.
+fn differences_of(alloc: Global, looks: &Looks) -> Result<Vec<i64>, AllocError> {
+    let before = unique(alloc, &looks.before.samples)?;
+    let after = unique(alloc, &looks.after.samples)?;
+    differences(alloc, &before, &after)
+}
+
+/// By how much frames with unique bytes came out before they went in: the median of those that came out before
+/// their window, where they are more than those that came out after it. The moments of frames that came out are
+/// later by `early`.
+pub(crate) fn usual_lead(
+    alloc: Global,
+    looks: &Looks,
+    early: u64,
+    within: u64,
+) -> Result<Option<u64>, AllocError> {
+    let list = differences_of(alloc, looks)?;
+    let window = i128::from(early) + i128::from(within);
+    let before = list.iter().filter(|other| **other < 0).count();
+    let after = list
+        .iter()
+        .filter(|other| i128::from(**other) > window)
+        .count();
+    match list.get(before / 2) {
+        Some(median) if before > after => Ok(Some(early.saturating_add(median.unsigned_abs()))),
+        _ => Ok(None),
+    }
+}
+
 /// The difference that half of the frames with unique bytes agree on, if they do. The moments of frames that
 /// came out are later by `early`.
 pub(crate) fn agreed_difference(
@@ -64,9 +93,7 @@ pub(crate) fn agreed_difference(
     looks: &Looks,
     early: u64,
 ) -> Result<Option<Agreed>, AllocError> {
-    let before = unique(alloc, &looks.before.samples)?;
-    let after = unique(alloc, &looks.after.samples)?;
-    let list = differences(alloc, &before, &after)?;
+    let list = differences_of(alloc, looks)?;
     if list.len() < LEAST {
         return Ok(None);
     }

@@ -2,56 +2,13 @@
 
 use std::alloc::AllocError;
 use std::fmt::Write;
-use transit_run::Latency;
-
-/// The ends of the rows, in microseconds.
-const EDGES: [i64; 27] = [
-    1,
-    2,
-    5,
-    10,
-    20,
-    50,
-    100,
-    200,
-    500,
-    1000,
-    2000,
-    5000,
-    10_000,
-    20_000,
-    50_000,
-    100_000,
-    200_000,
-    500_000,
-    1_000_000,
-    2_000_000,
-    5_000_000,
-    10_000_000,
-    20_000_000,
-    50_000_000,
-    100_000_000,
-    200_000_000,
-    500_000_000,
-];
-
-/// How many rows there may be: before the first end, between two, and after the last.
-const ROWS: usize = EDGES.len() + 1;
+use transit_run::{BORDERS, Latency, ROWS};
 
 /// The most rows that are shown.
 const MOST: usize = 7;
 
 /// The most characters of a bar.
 const WIDTH: u128 = 44;
-
-/// The row of a length in nanoseconds.
-fn row_of(nanos: i64) -> usize {
-    EDGES
-        .iter()
-        .filter(|edge| edge.saturating_mul(1000) <= nanos)
-        .count()
-        .min(ROWS - 1)
-}
 
 /// The counts of the rows, and which are shown: those outside stand in the first and the last of them.
 #[derive(Drop)]
@@ -67,10 +24,8 @@ struct Bars {
 impl Bars {
     fn of(latency: &Latency) -> Bars {
         let mut counts = [0u64; ROWS];
-        for (bin, count) in latency.bins() {
-            if let Some(row) = counts.as_mut_slice().get_mut(row_of(*bin)) {
-                *row = row.saturating_add(*count);
-            }
+        for row in 0..ROWS {
+            counts[row] = latency.rows()[row];
         }
         let first = counts.iter().position(|count| *count > 0).unwrap_or(0);
         let last = counts.iter().rposition(|count| *count > 0).unwrap_or(first);
@@ -120,10 +75,11 @@ impl Bars {
         let count = self.counts.get(row).copied().unwrap_or(0);
         let low = row
             .checked_sub(1)
-            .and_then(|row| EDGES.get(row))
+            .and_then(|row| BORDERS.get(row))
             .copied()
-            .unwrap_or(0);
-        let high = EDGES.get(row).copied().unwrap_or(0);
+            .unwrap_or(0)
+            / 1000;
+        let high = BORDERS.get(row).copied().unwrap_or(0) / 1000;
         if row == 0 || (row == self.first && self.has_below) {
             write!(out, "   below    {high:>8} us")?;
         } else if high == 0 || (row == self.last && self.has_above) {

@@ -431,6 +431,11 @@ fn question_of(alloc: Global, question: &Question) -> Result<JsonQuestion, Alloc
     let mut json = plain(alloc, question)?;
     match *question {
         Question::Drift(parts) => json.parts_per_billion = Some(parts),
+        Question::Step { step, .. } => {
+            json.nanoseconds = Some(step.change);
+            json.from = Some(decimal(alloc, step.from)?);
+            json.to = Some(decimal(alloc, step.to)?);
+        }
         Question::ClocksOrSwapped { least, shift } => json.set_clocks(least, true, shift),
         Question::ClocksApart { least, shift, .. } => json.set_clocks(least, true, shift),
         Question::ClocksFar { apart, shift, .. } => json.set_clocks(apart, false, shift),

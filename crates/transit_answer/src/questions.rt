@@ -1,12 +1,12 @@
 //! The questions on recordings that look wrong.
 
 use crate::answer::{Answer, Side};
-use crate::apart::agreed_difference;
+use crate::apart::{agreed_difference, usual_lead};
 use crate::words::{Counted, Length, length_of};
 use std::alloc::{AllocError, Global};
 use std::fmt;
 use std::fmt::{Display, Formatter};
-use transit_run::{Fate, Latency, Origin, Pass, Silence};
+use transit_run::{Fate, Latency, Origin, Pass, Silence, Step};
 
 /// A question: each is of something that looks wrong. Lengths of time are in nanoseconds.
 #[derive(Clone, Copy)]
@@ -23,6 +23,11 @@ pub enum Question {
     OtherTable,
     /// The least transit rises or falls, by so many parts of 10^9.
     Drift(i64),
+    /// The least transit steps to another level, so many nanoseconds after the start.
+    Step {
+        step: Step,
+        since: u64,
+    },
     /// All frames come out before they go in, and queueing makes that shorter.
     Swapped,
     /// All frames come out before they go in: by so much at most. The shift has the fastest come out at once.
@@ -60,6 +65,10 @@ pub enum Question {
     Window {
         within: u64,
     },
+    /// The same, where frames come out so much before they go in, earlier than the window begins.
+    Early {
+        lead: u64,
+    },
     /// For a time nothing was recorded.
     Silence(Side, Silence),
 }
@@ -68,6 +77,11 @@ pub enum Question {
 fn clock_question(answer: &Answer<'_, '_>) -> Option<Question> {
     if let Some(parts) = answer.pass.drift() {
         return Some(Question::Drift(parts));
+    }
+    if let Some(step) = answer.pass.step() {
+        let start = answer.pass.start().unwrap_or(step.moment);
+        let since = step.moment.saturating_sub(start);
+        return Some(Question::Step { step, since });
     }
     let latency = answer.pass.latency();
     let (least, greatest) = latency.range?;
@@ -173,6 +187,15 @@ fn silence_of(pass: &Pass<'_>, side: Side) -> Option<Silence> {
     silences.first().copied()
 }
 
+/// The question whether the window is too short, and on which side.
+fn window_question(alloc: Global, answer: &Answer<'_, '_>) -> Result<Question, AllocError> {
+    let (within, early) = (answer.pass.options().within, answer.pass.options().early);
+    match usual_lead(alloc, answer.looks, early, within)? {
+        Some(lead) => Ok(Question::Early { lead }),
+        None => Ok(Question::Window { within }),
+    }
+}
+
 /// The question whether the recordings are of one switch, and whole in between.
 fn pair_question(answer: &Answer<'_, '_>) -> Option<Question> {
     let pass = answer.pass;
@@ -232,8 +255,10 @@ pub fn questions_of(alloc: Global, answer: &Answer<'_, '_>) -> Result<Vec<Questi
         Some(question) => Some(question),
         None => pair_question(answer),
     };
-    if let Some(question) = question {
-        questions.push(question)?;
+    match question {
+        Some(Question::Window { .. }) => questions.push(window_question(alloc, answer)?)?,
+        Some(question) => questions.push(question)?,
+        None => {}
     }
     Ok(questions)
 }
@@ -251,6 +276,7 @@ impl Question {
             Question::Constant => "constant",
             Question::OtherTable => "other_table",
             Question::Drift(_) => "drift",
+            Question::Step { .. } => "step",
             Question::Swapped => "swapped",
             Question::ClocksOrSwapped { .. }
             | Question::ClocksApart { .. }
@@ -262,7 +288,7 @@ impl Question {
             Question::OtherPort => "other_port",
             Question::TwoNetworks => "two_networks",
             Question::Rewritten => "rewritten",
-            Question::Window { .. } => "window",
+            Question::Window { .. } | Question::Early { .. } => "window",
             Question::Silence(Side::Before, _) => "silence_before",
             Question::Silence(Side::After, _) => "silence_after",
         }
@@ -296,18 +322,33 @@ are --before and --after of two networks? Most frames differ in the byte that na
 const REWRITTEN: &str = "\
 does the switch rewrite frames, or are they of two flights? More than half came out changed.";
 
+/// The words of the question whether the clocks drift by so many nanoseconds a second.
+fn write_drift<W: fmt::Write>(parts: i64, f: &mut Formatter<W>) -> fmt::Result {
+    let way = if parts < 0 { "falls" } else { "rises" };
+    let size = parts.unsigned_abs();
+    let (whole, tenth) = (size / 1000, size % 1000 / 100);
+    write!(
+        f,
+        "do the clocks drift? The least latency {way} by {whole}.{tenth} us a second."
+    )
+}
+
+/// The words of the question why the least latency changed, so many nanoseconds after the start.
+fn write_step<W: fmt::Write>(change: i64, since: u64, f: &mut Formatter<W>) -> fmt::Result {
+    let way = if change < 0 { "falls" } else { "rises" };
+    let size = length_of(change.unsigned_abs());
+    let seconds = since.saturating_add(500_000_000) / 1_000_000_000;
+    write!(
+        f,
+        "did a clock step, or the load or path change? The least latency {way} by {size} at {seconds} s."
+    )
+}
+
 /// The words of a question about the clocks.
 fn write_clocks<W: fmt::Write>(question: &Question, f: &mut Formatter<W>) -> fmt::Result {
     match *question {
-        Question::Drift(parts) => {
-            let way = if parts < 0 { "falls" } else { "rises" };
-            let size = parts.unsigned_abs();
-            let (whole, tenth) = (size / 1000, size % 1000 / 100);
-            write!(
-                f,
-                "do the clocks drift? The least latency {way} by {whole}.{tenth} us a second."
-            )
-        }
+        Question::Drift(parts) => write_drift(parts, f),
+        Question::Step { step, since } => write_step(step.change, since, f),
         Question::ClocksOrSwapped { least, .. } => {
             let apart = Length(least.saturating_neg());
             write!(
@@ -339,6 +380,29 @@ fn write_clocks<W: fmt::Write>(question: &Question, f: &mut Formatter<W>) -> fmt
             write!(
                 f,
                 "are the clocks apart by {apart}? {frames} of {of} frames agree on it."
+            )
+        }
+        _ => Ok(()),
+    }
+}
+
+/// The words of the question whether the window is too short.
+fn write_window<W: fmt::Write>(question: &Question, f: &mut Formatter<W>) -> fmt::Result {
+    match *question {
+        Question::Window { within } => {
+            let longest = length_of(within);
+            write!(
+                f,
+                "are latencies above {longest}? Many frames in a row never came out, and many never \
+                 went in."
+            )
+        }
+        Question::Early { lead } => {
+            let lead = length_of(lead);
+            write!(
+                f,
+                "do frames come out {lead} before they go in? Many in a row never came out, and many \
+                 never went in."
             )
         }
         _ => Ok(()),
@@ -395,14 +459,7 @@ impl Display for Question {
             Question::OtherPort => f.write_str(OTHER_PORT),
             Question::TwoNetworks => f.write_str(TWO_NETWORKS),
             Question::Rewritten => f.write_str(REWRITTEN),
-            Question::Window { within } => {
-                let longest = length_of(within);
-                write!(
-                    f,
-                    "are latencies above {longest}? Many frames in a row never came out, and many never \
-                     went in."
-                )
-            }
+            Question::Window { .. } | Question::Early { .. } => write_window(self, f),
             Question::Silence(side, silence) => write_silence(side, silence, f),
             _ => write_clocks(self, f),
         }

@@ -1,11 +1,12 @@
 //! From a ledger of transits and its recordings to a capture.
 
+use crate::bounds::MAX_LINES;
 use crate::fault::TransitCutFault;
 use crate::output::{CutOutput, TransitFormat};
 use crate::selection::TransitSelection;
 use afdx_frame::{LentFrame, Network, Stamp, TapFrame};
 use cut_run::CutEnding;
-use ledger_text::LedgerStop;
+use ledger_text::{LedgerStop, Neighbours};
 use pcap_io::{OutSink, TapSource};
 use run_fault::{MAX_FRAMES, Output, WatchFault};
 use std::alloc::{AllocError, Global};
@@ -16,8 +17,16 @@ use transit_ledger::{TransitFault, TransitFound, TransitLine, TransitReader};
 /// The last timestamp of a frame, in nanoseconds.
 const LAST: u64 = (1_000_000_000 << 32) - 1;
 
-/// More lines than a ledger has: two recordings' frames, and counts.
-const MAX_LINES: u64 = 4 * MAX_FRAMES;
+/// The frames that are taken.
+#[derive(Drop)]
+pub struct TransitChoice<'a> {
+    /// The lines that are selected.
+    pub selection: &'a TransitSelection,
+    /// Lines near those, which are taken too.
+    pub neighbours: Option<Neighbours>,
+    /// The recording that isn't given, of which no frame is taken.
+    pub skips: Option<Network>,
+}
 
 /// A cut that has ended, with the devices that it was given.
 #[derive(Drop)]
@@ -56,13 +65,11 @@ fn key_of(side: Network, number: u64) -> u64 {
 struct Cutting<'a, L, W> {
     ledger: TransitReader<L>,
     output: CutOutput<'a, W>,
-    selection: &'a TransitSelection,
+    choice: TransitChoice<'a>,
     /// How far clocks and timestamps may be off, and what is added to the timestamps of the port out, in
     /// nanoseconds.
     early: u64,
     shift: i64,
-    /// The recording that isn't given, of which no frame is taken.
-    skips: Option<Network>,
     /// The time of the ledger's first frame.
     first: Option<u64>,
     sought: BTreeMap<u64, Sought>,
@@ -112,7 +119,7 @@ impl<L: TapSource + Drop, W: OutSink> Cutting<'_, L, W> {
         number: u64,
         sought: Sought,
     ) -> Result<(), TransitCutFault> {
-        if self.skips == Some(side) {
+        if self.choice.skips == Some(side) {
             return Ok(());
         }
         match self.sought.insert(key_of(side, number), sought) {
@@ -122,11 +129,20 @@ impl<L: TapSource + Drop, W: OutSink> Cutting<'_, L, W> {
         }
     }
 
+    /// Is the line selected, or near one that is?
+    fn is_taken(&mut self, first: u64, line: &TransitLine) -> bool {
+        let is_near = match (&mut self.choice.neighbours, line.link) {
+            (Some(neighbours), Some(id)) => neighbours.is_near(id),
+            _ => false,
+        };
+        is_near || self.choice.selection.takes(Stamp(first), line)
+    }
+
     /// Looks for the frames of a line, if it is taken: its own, and its partner.
     fn take(&mut self, line: TransitLine) -> Result<(), TransitCutFault> {
         let first = self.first.unwrap_or(line.time);
         self.first = Some(first);
-        if !self.selection.takes(Stamp(first), &line) {
+        if !self.is_taken(first, &line) {
             return Ok(());
         }
         let at = self.ledger.number();
@@ -214,12 +230,11 @@ impl<L: TapSource + Drop, W: OutSink> Observer for Cutting<'_, L, W> {
     }
 }
 
-/// Copies the frames that the selection's lines of a ledger of transits take: the frame that went in and the
-/// one that came out, in the order of their times by the ledger's clock. All devices come back. After a fault
-/// the capture is a prefix of what it would be.
+/// Copies the frames of the chosen lines of a ledger of transits: the frame that went in and the one that
+/// came out, in the order of their times by the ledger's clock. All devices come back. After a fault the
+/// capture is a prefix of what it would be.
 ///
-/// A timestamp may lie `late` nanoseconds below the greatest one before it. Of a recording that `skips` names
-/// no frame is taken.
+/// A timestamp may lie `late` nanoseconds below the greatest one before it.
 ///
 /// # Errors
 ///
@@ -228,14 +243,14 @@ impl<L: TapSource + Drop, W: OutSink> Observer for Cutting<'_, L, W> {
 /// `Write`, `Memory`.
 pub fn cut_transits<'a, L: TapSource + Drop, S: TapSource, W: OutSink>(
     alloc: Global,
-    selection: &'a TransitSelection,
-    (skips, late): (Option<Network>, u64),
+    choice: TransitChoice<'a>,
+    late: u64,
     ledger: L,
     (before, after): (S, S),
     format: TransitFormat<'a>,
     output: W,
 ) -> TransitCutRun<L, S, W> {
-    let mut cutting = match begin(alloc, selection, skips, ledger, format, output) {
+    let mut cutting = match begin(alloc, choice, ledger, format, output) {
         Ok(cutting) => cutting,
         Err((fault, ledger, output)) => {
             return TransitCutRun {
@@ -267,8 +282,7 @@ pub fn cut_transits<'a, L: TapSource + Drop, S: TapSource, W: OutSink>(
 /// Reads the ledger's head, and writes what a capture begins with.
 fn begin<'a, L: TapSource + Drop, W: OutSink>(
     alloc: Global,
-    selection: &'a TransitSelection,
-    skips: Option<Network>,
+    choice: TransitChoice<'a>,
     ledger: L,
     format: TransitFormat<'a>,
     output: W,
@@ -284,10 +298,9 @@ fn begin<'a, L: TapSource + Drop, W: OutSink>(
     Ok(Cutting {
         ledger,
         output,
-        selection,
+        choice,
         early: run.early,
         shift: run.shift,
-        skips,
         first: None,
         sought: BTreeMap::new(alloc),
         next: None,

@@ -2,15 +2,18 @@
 //! went in, and the one that came out of it, each with the line's outcome as its comment.
 #![tactic(auto)]
 
+mod bounds;
 mod comment;
 mod cut;
 mod fault;
+mod neighbours;
 mod outcomes;
 mod output;
 mod selection;
 
-pub use cut::{TransitCutRun, cut_transits};
+pub use cut::{TransitChoice, TransitCutRun, cut_transits};
 pub use fault::TransitCutFault;
+pub use neighbours::{TransitNeighboursRun, transit_neighbours_of};
 pub use outcomes::OutcomeSet;
 pub use output::TransitFormat;
 pub use selection::TransitSelection;

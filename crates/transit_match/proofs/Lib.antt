@@ -1,3 +1,4 @@
+pub mod Lanes
 pub mod Lawful
 pub mod Lists
 pub mod Pairs

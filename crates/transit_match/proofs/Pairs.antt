@@ -102,7 +102,7 @@ was {K} same window a n rows place new e =
 
 -- ---- the pairing after a frame that comes out
 
-free_none : (o : Option ℕ) → not (is_some o) ≡ true → o ≡ None
+pub free_none : (o : Option ℕ) → not (is_some o) ≡ true → o ≡ None
 free_none None e = refl
 free_none (Some x) e = absurd (false≢true e)
 

@@ -9,25 +9,25 @@ use Rattle.std.proofs.lemmas.List.Quantifiers.{position-Some}
 use Rattle.std.proofs.lemmas.Option.{cond_some, none-some, slice_get_past, slice_get_read}
 use Rattle.transit_match.specs.declared.waiting.Entry.{Entry}
 use Rattle.transit_match.specs.Pairing.{Row, Arrival, IsPairing, is_within}
-use Rattle.transit_match.specs.Waiting.{IsAfter, StandsAfter, entered, entry_of, first_free, fits, is_over, may_take, paired, starts_over}
+use Rattle.transit_match.specs.Waiting.{IsAfter, StandsAfter, entered, entry_of, first_free, fits, is_over, may_take, paired, starts_over, with_taken}
 use Rattle.transit_match.proofs.Lists.{all_by, all_more}
 use Rattle.transit_match.proofs.Pairs.{given, pairing_in, pairing_out}
 
 -- ---- windows that are over
 
-over_not_within : (window floor moment in_moment : ℕ) → is_over window floor in_moment ≡ true → floor ≤ moment →
+pub over_not_within : (window floor moment in_moment : ℕ) → is_over window floor in_moment ≡ true → floor ≤ moment →
     is_within window in_moment moment ≡ false
 over_not_within window floor moment in_moment e h =
     let over : window < floor - in_moment = ltb-true window (floor - in_moment) e in
     and_right (nat_le in_moment moment) (nat_le (moment - in_moment) window) (lt-leb (moment - in_moment) window (omega arith))
 
-over_later : (window floor moment in_moment : ℕ) → is_over window floor in_moment ≡ true → floor ≤ moment →
+pub over_later : (window floor moment in_moment : ℕ) → is_over window floor in_moment ≡ true → floor ≤ moment →
     is_over window moment in_moment ≡ true
 over_later window floor moment in_moment e h =
     let over : window < floor - in_moment = ltb-true window (floor - in_moment) e in
     lt-ltb window (moment - in_moment) (omega arith)
 
-paired_past : {K : Type 0} (same : K → K → Bool) (window floor : ℕ) (a : Arrival K) (n : ℕ) (gone kept : List (Row K)) →
+pub paired_past : {K : Type 0} (same : K → K → Bool) (window floor : ℕ) (a : Arrival K) (n : ℕ) (gone kept : List (Row K)) →
     AllByRecursion (λ row. is_over window floor row.moment ≡ true) gone → floor ≤ a.moment →
     paired same window a n (gone ++ kept) ≡ gone ++ paired same window a n kept
 paired_past same window floor a n [] kept over h = refl
@@ -291,3 +291,44 @@ pub stands_popped : {K : Type 0} (same : K → K → Bool) (window floor moment 
 stands_popped same window floor moment [] rows arrivals over s h = absurd (false≢true over)
 stands_popped same window floor moment (e ∷ entries) rows arrivals over s h =
     stands_forgotten same window floor moment e (e ∷ entries) entries rows arrivals refl over s h
+
+-- ---- the entry that is taken, of those that are kept
+
+taken_at : {K : Type 0} (p : Entry K → Bool) (entries : List (Entry K)) (i : ℕ) (e : Entry K) → i < length entries → e ≡ get_or entries i e →
+    p (get_or entries i e) ≡ true → ((k : ℕ) → k < i → p (get_or entries k e) ≡ false) →
+    set entries i (record e { taken = true }) ≡ with_taken p entries
+taken_at p [] i e h g t none = absurd (omega arith)
+taken_at {K} p (x ∷ xs) zero e h g t none =
+    ap (λ (y : Entry K). record y { taken = true } ∷ xs) g ∙ sym (cond-true (p x) (record x { taken = true } ∷ xs) (x ∷ with_taken p xs) t)
+taken_at {K} p (x ∷ xs) (suc i) e h g t none =
+    ap (λ (l : List (Entry K)). x ∷ l) (taken_at p xs i e (omega arith) g t (λ k below. none (suc k) (omega arith)))
+    ∙ sym (cond-false (p x) (record x { taken = true } ∷ xs) (x ∷ with_taken p xs) (none 0 (omega arith)))
+
+pub with_taken_at : {K : Type 0} (p : Entry K → Bool) (entries : List (Entry K)) (i : ℕ) (e : Entry K) → position p entries ≡ Some i →
+    e ≡ get_or entries i e → set entries i (record e { taken = true }) ≡ with_taken p entries
+with_taken_at p entries i e found g =
+    let at = position-Some p entries i e found in taken_at p entries i e at.0 g at.1 at.2
+
+none_taken : {K : Type 0} (p : Entry K → Bool) (entries : List (Entry K)) →
+    ((k : ℕ) (d : Entry K) → k < length entries → p (get_or entries k d) ≡ false) → entries ≡ with_taken p entries
+none_taken p [] none = refl
+none_taken {K} p (x ∷ xs) none =
+    ap (λ (l : List (Entry K)). x ∷ l) (none_taken p xs (λ k d h. none (suc k) d (omega arith)))
+    ∙ sym (cond-false (p x) (record x { taken = true } ∷ xs) (x ∷ with_taken p xs) (none 0 x (omega arith)))
+
+pub with_none_taken : {K : Type 0} (p : Entry K → Bool) (entries : List (Entry K)) → position p entries ≡ None →
+    entries ≡ with_taken p entries
+with_none_taken p entries e =
+    let all = none_at p entries e in none_taken p entries (λ k d h. fails_before_first p entries k d (omega (arith, all, h)))
+
+pub found_none : {K : Type 0} (p : Entry K → Bool) (entries : List (Entry K)) → position p entries ≡ None →
+    None ≡ option_map (λ entry. entry.place) (find p entries)
+found_none {K} p entries e =
+    let past = none_at p entries e in
+    let nothing : find p entries ≡ None = find_at p entries ∙ slice_get_past entries (position_or_len p entries) past in
+    sym (ap (λ (o : Option (Entry K)). option_map (λ (entry : Entry K). entry.place) o) nothing)
+
+pub found_some : {K : Type 0} (p : Entry K → Bool) (entries : List (Entry K)) (i : ℕ) (e : Entry K) → position p entries ≡ Some i →
+    e ≡ get_or entries i e → Some e.place ≡ option_map (λ entry. entry.place) (find p entries)
+found_some {K} p entries i e found g =
+    sym (ap (λ (o : Option (Entry K)). option_map (λ (entry : Entry K). entry.place) o) (found_at p entries i e found g))

@@ -1,4 +1,5 @@
 pub mod Forgetting
+pub mod Lanes
 pub mod Laws
 pub mod Pairing
 pub mod Waiting

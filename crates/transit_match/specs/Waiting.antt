@@ -31,6 +31,11 @@ paired same window arrival place (row ∷ rows) =
 abbrev pub first_free : {K : Type 0} → (K → K → Bool) → ℕ → Arrival K → List (Row K) → Option (Row K)
 first_free same window arrival rows = find (λ row. may_take same window arrival (entry_of row)) rows
 
+-- the first entry that passes the test is taken
+abbrev pub with_taken : {K : Type 0} → (Entry K → Bool) → List (Entry K) → List (Entry K)
+with_taken may [] = []
+with_taken may (entry ∷ entries) = cond (may entry) (record entry { taken = true } ∷ entries) (entry ∷ with_taken may entries)
+
 -- its window ended before the moment
 abbrev pub is_over : ℕ → ℕ → ℕ → Bool
 is_over window moment in_moment = nat_lt window (moment - in_moment)

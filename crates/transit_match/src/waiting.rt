@@ -1,12 +1,12 @@
 //! The frames that went in and may still come out.
 
-ghost use Rattle.std.specs.Prelude.{◌≡◌, ℕ, ◌<◌, ◌≤◌, List, [], ◌∷◌, ◌++◌, OnOk, OnErr, drop, length, position};
+ghost use Rattle.std.specs.Prelude.{◌≡◌, ℕ, ◌<◌, ◌≤◌, List, [], ◌∷◌, ◌++◌, OnOk, OnErr, drop, find, length, position};
 ghost use Rattle.std.specs.List.{list_any};
 ghost use Rattle.std.specs.Option.{option_map};
 ghost use Rattle.std.specs.VecDeque.{deque_capacity, deque_len};
 ghost use Rattle.transit_match.specs.Pairing.{Row, Arrival, is_within};
 ghost use Rattle.transit_match.specs.Forgetting.{first_key, key_over, without_over};
-ghost use Rattle.transit_match.specs.Waiting.{IsAfter, Stands, entered, entry_of, first_free, fits, may_take, paired, starts_over};
+ghost use Rattle.transit_match.specs.Waiting.{IsAfter, Stands, entered, entry_of, first_free, fits, may_take, paired, starts_over, with_taken};
 
 use std::alloc::{AllocError, Global};
 use std::collections::VecDeque;
@@ -32,6 +32,7 @@ impl<K: PartialEq + Drop> Waiting<K> {
     /// nothing.
     pub fn new(alloc: Global, window: u64) -> Waiting<K>
         ensures after { Stands K.eq result 0 [] [] }
+        ensures empty { result.queue.items ≡ [] }
         ensures window { result.window ≡ window }
     {
         Waiting {
@@ -46,6 +47,8 @@ impl<K: PartialEq + Drop> Waiting<K> {
         ensures after { OnOk result ((floor : ℕ) (rows : List (Row K)) (arrivals : List (Arrival K)) →
             Stands K.eq self.old floor rows arrivals → IsAfter moment arrivals →
             Stands K.eq self.new floor (rows ++ entered moment place key ∷ []) arrivals) }
+        ensures entry { OnOk result (self.new.queue.items
+            ≡ self.old.queue.items ++ entry_of (entered moment place key) ∷ []) }
         ensures unchanged { OnErr result (self.new.queue.items ≡ self.old.queue.items) }
         // It asks for memory only where the queue is full.
         ensures memory { OnErr result (deque_capacity self.old.queue ≤ deque_len self.old.queue) }
@@ -72,6 +75,13 @@ impl<K: PartialEq + Drop> Waiting<K> {
             Stands K.eq self.new floor
             (paired K.eq self.old.window (record { moment = moment; key = key.now }) (length arrivals) rows)
             (arrivals ++ record { moment = moment; key = key.now } ∷ []) }
+        // Of the entries that are kept it takes the first that it may take.
+        ensures found { result ≡ option_map (λ entry. entry.place) (find
+            (may_take K.eq self.old.window (record { moment = moment; key = key.now }))
+            self.old.queue.items) }
+        ensures taken { self.new.queue.items ≡ with_taken
+            (may_take K.eq self.old.window (record { moment = moment; key = key.now }))
+            self.old.queue.items }
         ensures window { self.new.window ≡ self.old.window }
     {
         let index = self.find(key, moment)?;

@@ -1,6 +1,9 @@
 pub mod Growing
 pub mod Keeping
+pub mod Partners
 pub mod Passing
 pub mod Placed
+pub mod Queues
 pub mod Tallies
+pub mod Waiting
 pub mod Written

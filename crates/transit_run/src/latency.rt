@@ -2,6 +2,40 @@
 
 use std::alloc::{AllocError, Global};
 
+/// The borders by which transits are counted exactly, in nanoseconds: 1, 2, 5, 10 .. microseconds.
+pub const BORDERS: [i64; 27] = [
+    1_000,
+    2_000,
+    5_000,
+    10_000,
+    20_000,
+    50_000,
+    100_000,
+    200_000,
+    500_000,
+    1_000_000,
+    2_000_000,
+    5_000_000,
+    10_000_000,
+    20_000_000,
+    50_000_000,
+    100_000_000,
+    200_000_000,
+    500_000_000,
+    1_000_000_000,
+    2_000_000_000,
+    5_000_000_000,
+    10_000_000_000,
+    20_000_000_000,
+    50_000_000_000,
+    100_000_000_000,
+    200_000_000_000,
+    500_000_000_000,
+];
+
+/// How many rows there are: below the first border, from each border to the next, and from the last one on.
+pub const ROWS: usize = BORDERS.len() + 1;
+
 /// The transits of frames, in nanoseconds. A transit below 0 is that of clocks which are apart.
 #[derive(Drop)]
 pub struct Latency {
@@ -17,6 +51,8 @@ pub struct Latency {
     pub negative: u64,
     /// The lengths, rounded, from the shortest on, and how many there are of each.
     bins: Vec<(i64, u64)>,
+    /// How many there are in each row.
+    rows: [u64; ROWS],
 }
 
 impl Latency {
@@ -29,6 +65,7 @@ impl Latency {
             over: 0,
             negative: 0,
             bins: Vec::new(alloc),
+            rows: [0; ROWS],
         }
     }
 
@@ -39,6 +76,9 @@ impl Latency {
     /// `AllocError` if there is no memory for a length that is met for the first time.
     pub fn add(&mut self, transit: i64, bound: Option<u64>) -> Result<(), AllocError> {
         self.count_bin(rounded(transit))?;
+        if let Some(row) = self.rows.as_mut_slice().get_mut(row_of(transit)) {
+            *row = row.saturating_add(1);
+        }
         self.count = self.count.saturating_add(1);
         self.sum = self.sum.saturating_add(i128::from(transit));
         self.range = match self.range {
@@ -96,6 +136,11 @@ impl Latency {
         &self.bins
     }
 
+    /// How many transits there are in each row by [`BORDERS`].
+    pub fn rows(&self) -> &[u64; ROWS] {
+        &self.rows
+    }
+
     /// The length, rounded, that so many of a thousand transits don't exceed. None: there is none.
     pub fn rank(&self, thousandths: u64) -> Option<i64> {
         let mut left = u128::from(self.count) * u128::from(thousandths);
@@ -107,6 +152,14 @@ impl Latency {
             left -= these;
         }
         None
+    }
+}
+
+/// The row of a transit: one of a border's length is in the row that begins there.
+fn row_of(transit: i64) -> usize {
+    match BORDERS.binary_search(&transit) {
+        Ok(place) => place.saturating_add(1),
+        Err(place) => place,
     }
 }
 

@@ -27,9 +27,10 @@ mod silence;
 mod summary;
 mod tally;
 
+pub use floor::Step;
 pub use kind::{FaultFrame, Faults, Kind, KindTally};
 pub use lane::LinkTransits;
-pub use latency::Latency;
+pub use latency::{BORDERS, Latency, ROWS};
 pub use options::Options;
 pub use outcome::{Fate, Origin, Pair, Passage, fate_of, origin_of};
 pub use pass::Pass;

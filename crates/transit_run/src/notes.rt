@@ -1,8 +1,11 @@
 //! The findings on the frames, beside their lines and counts.
 
+ghost use Rattle.std.specs.Prelude.{◌≡◌};
+ghost use Rattle.transit_run.specs.Waits.{queues_of};
+
 use crate::floor::Floor;
 use crate::kind::{FaultFrame, Faults, Kind};
-use crate::lane::Lane;
+use crate::lane::{Lane, is_first_dropped, is_first_new, note_fate, note_fault, note_transit};
 use crate::latency::Latency;
 use crate::outcome::{Fate, Origin, Pair};
 use crate::rows::{GoneIn, Head};
@@ -43,9 +46,12 @@ impl Notes {
         &mut self,
         lanes: &mut Vec<Lane>,
         row: &GoneIn,
-        (fate, transit): (Fate, Option<i64>),
+        ended: (Fate, Option<i64>),
         bound: Option<u64>,
-    ) -> Result<(), AllocError> {
+    ) -> Result<(), AllocError>
+        ensures { queues_of lanes.new.items ≡ queues_of lanes.old.items }
+    {
+        let (fate, transit) = ended;
         let transit = if row.pair() == Pair::Alike {
             transit
         } else {
@@ -55,13 +61,11 @@ impl Notes {
             self.latency.add(transit, bound)?;
             self.floor.note(row.head.moment, transit)?;
         }
-        if let Some(lane) = lanes.get_mut(row.head.place) {
-            lane.note_fate(fate, row.partner.is_some());
-            if let Some(transit) = transit {
-                lane.latency.add(transit, bound)?;
-            }
+        note_fate(lanes, row.head.place, fate, row.partner.is_some());
+        match transit {
+            Some(transit) => note_transit(lanes, row.head.place, transit, bound),
+            None => Ok(()),
         }
-        Ok(())
     }
 
     /// Notes a frame that went in among the faults, and in the row of those that didn't come out. The
@@ -72,16 +76,15 @@ impl Notes {
         row: &GoneIn,
         fate: Fate,
         start: u64,
-    ) -> Result<(), AllocError> {
+    ) -> Result<(), AllocError>
+        ensures { queues_of lanes.new.items ≡ queues_of lanes.old.items }
+    {
         let head = row.head;
         if row.partner.is_some() {
             self.end_rows()?;
         } else if fate == Fate::Dropped {
             let number = self.silences_out.row;
-            let is_new = match lanes.get_mut(head.place) {
-                Some(lane) => lane.facts.dropped_in.replace(number) != Some(number),
-                None => false,
-            };
+            let is_new = is_first_dropped(lanes, head.place, number);
             self.silences_out.note(head.moment, is_new);
         }
         if row
@@ -101,15 +104,15 @@ impl Notes {
         &mut self,
         lanes: &mut Vec<Lane>,
         head: &Head,
-        (moment, origin): (u64, Origin),
+        came: (u64, Origin),
         start: u64,
-    ) -> Result<(), AllocError> {
+    ) -> Result<(), AllocError>
+        ensures { queues_of lanes.new.items ≡ queues_of lanes.old.items }
+    {
+        let (moment, origin) = came;
         if origin == Origin::New {
             let number = self.silences_in.row;
-            let is_new = match lanes.get_mut(head.place) {
-                Some(lane) => lane.facts.new_in.replace(number) != Some(number),
-                None => false,
-            };
+            let is_new = is_first_new(lanes, head.place, number);
             self.silences_in.note(moment, is_new);
         }
         match Kind::of_origin(origin) {
@@ -122,20 +125,21 @@ impl Notes {
         &mut self,
         lanes: &mut Vec<Lane>,
         head: &Head,
-        (moment, is_after, kind): (u64, bool, Kind),
+        fault: (u64, bool, Kind),
         start: u64,
-    ) -> Result<(), AllocError> {
-        if let Some(lane) = lanes.get_mut(head.place) {
-            lane.note_fault(moment);
-        }
-        let fault = FaultFrame {
+    ) -> Result<(), AllocError>
+        ensures { queues_of lanes.new.items ≡ queues_of lanes.old.items }
+    {
+        let (moment, is_after, kind) = fault;
+        note_fault(lanes, head.place, moment);
+        let frame = FaultFrame {
             moment,
             is_after,
             number: head.number,
             address: head.address,
             kind,
         };
-        self.faults.note(start, fault)
+        self.faults.note(start, frame)
     }
 
     /// A frame has a partner, or none follows: rows of frames without one end.

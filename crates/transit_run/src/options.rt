@@ -1,5 +1,8 @@
 //! The options of a pass.
 
+ghost use Rattle.std.specs.Prelude.{◌≡◌};
+ghost use Rattle.transit_run.specs.Waits.{window_of};
+
 use afdx_frame::VlId;
 
 /// Times are in nanoseconds.
@@ -22,7 +25,9 @@ pub struct Options {
 impl Options {
     /// How much later than it went in a frame comes out at most, where its moment of coming out is taken
     /// later by what clocks may be off.
-    pub fn window(&self) -> u64 {
+    pub fn window(&self) -> u64
+        ensures { result ≡ window_of self.now }
+    {
         self.within.saturating_add(self.early)
     }
 

@@ -1,15 +1,18 @@
 //! The pass over both recordings.
 
-ghost use Rattle.std.specs.Prelude.{◌≡◌, ◌<◌, ◌-◌, List, [], ◌∷◌, IfOk, IfSome, OnErr, OnOk, filter, length};
+ghost use Rattle.std.specs.Prelude.{◌≡◌, ◌<◌, ◌-◌, List, [], ◌∷◌, None, IfOk, IfSome, OnErr, OnOk, filter, length};
 ghost use Rattle.transit_run.specs.Counts.{IsCountOf, IsTallyOf, is_of};
 ghost use Rattle.transit_run.specs.Held.{Passes, Turns, Writes, held, held_out, mark_of, shown, shown_out};
 ghost use Rattle.transit_run.specs.Ledger.{GoesOn, Grows, IsEmpty};
+ghost use Rattle.transit_run.specs.Partners.{Alike, SettlesAlike};
+ghost use Rattle.transit_run.specs.Waits.{IsFirstAt, state_of};
 ghost use Rattle.transit_run.specs.Told.{IsKnown, TellsOrigin, is_cut, is_discarded, is_excess, is_over, is_unsure, transit_by, transit_of};
 ghost use Rattle.transit_run.specs.declared.line.Line.{Line};
 
 use crate::facts::{Span, covers, is_by};
+use crate::floor::Step;
 use crate::kind::{Faults, Kind};
-use crate::lane::{Lane, LinkTransits};
+use crate::lane::{Lane, LinkTransits, police};
 use crate::latency::Latency;
 use crate::ledger::Ledger;
 use crate::line::{AfterLine, BeforeLine, Line};
@@ -17,7 +20,6 @@ use crate::notes::Notes;
 use crate::options::Options;
 use crate::outcome::{Origin, Passage, fate_of, origin_of};
 use crate::pairing::Pairing;
-use crate::policer::police;
 use crate::reach::Reach;
 use crate::rows::{ComeOut, GoneIn, Head, Partner};
 use crate::silence::Silence;
@@ -177,6 +179,7 @@ impl<'t> Pass<'t> {
     /// `AllocError` if there is no memory for lines.
     pub fn finish(&mut self) -> Result<(), AllocError>
         ensures ok { OnOk result (Passes self.old self.new [] []) }
+        ensures alike { OnOk result (SettlesAlike self.old self.new None) }
         ensures all { OnOk result (held self.new.pairing ≡ []) }
         ensures out { OnOk result (held_out self.new.pairing ≡ []) }
         ensures err { OnErr result (Grows self.old.ledger self.new.ledger) }
@@ -286,6 +289,11 @@ impl<'t> Pass<'t> {
     /// By how many parts of 10^9 the clocks seem to drift. None: they don't.
     pub fn drift(&self) -> Option<i64> {
         self.notes.floor.drift()
+    }
+
+    /// The step that the least transit seems to make. None: it makes none.
+    pub fn step(&self) -> Option<Step> {
+        self.notes.floor.step()
     }
 
     /// How many frames that went in have another constant field than the table's.
@@ -414,6 +422,7 @@ impl<'t> Pass<'t> {
     fn settle(&mut self, now: Option<u64>) -> Result<(), AllocError>
         ensures ok { OnOk result (Writes self.old self.new) }
         ensures err { OnErr result (Grows self.old.ledger self.new.ledger) }
+        ensures alike { OnOk result (SettlesAlike self.old self.new now) }
         ensures done { OnOk result (now ≡ None → held self.new.pairing ≡ []) }
         ensures out { OnOk result (now ≡ None → held_out self.new.pairing ≡ []) }
     {
@@ -424,6 +433,7 @@ impl<'t> Pass<'t> {
     fn write(&mut self, now: Option<u64>) -> Result<(), AllocError>
         ensures ok { OnOk result (Writes self.old self.new) }
         ensures err { OnErr result (Grows self.old.ledger self.new.ledger) }
+        ensures alike { OnOk result (Alike self.old self.new now) }
         ensures done { OnOk result (now ≡ None → held self.new.pairing ≡ []) }
         ensures out { OnOk result (now ≡ None → held_out self.new.pairing ≡ []) }
     {
@@ -436,10 +446,11 @@ impl<'t> Pass<'t> {
     }
 
     /// Writes the next line, where it is certain.
-    #[tactic(auto, using(crate::proofs::Passing::writes_kept))]
+    #[tactic(auto, using(crate::proofs::Passing::writes_kept, crate::proofs::Partners::alike_same))]
     fn write_next(&mut self, now: Option<u64>) -> Result<bool, AllocError>
         ensures ok { OnOk result (Writes self.old self.new) }
         ensures err { OnErr result (Grows self.old.ledger self.new.ledger) }
+        ensures alike { OnOk result (Alike self.old self.new now) }
         ensures turn { IfOk result (Turns now self.old.pairing self.new.pairing) }
     {
         match (self.pairing.first_before(), self.pairing.first_after()) {
@@ -454,9 +465,11 @@ impl<'t> Pass<'t> {
 
     #[tactic(auto, using(crate::proofs::Passing::writes_before, crate::proofs::Passing::writes_kept))]
     fn write_before(&mut self, now: Option<u64>, moment: u64) -> Result<bool, AllocError>
-        requires { 0 < length self.old.pairing.befores.items }
+        requires held { 0 < length self.old.pairing.befores.items }
+        requires first { IsFirstAt moment (state_of self.old.pairing) }
         ensures ok { OnOk result (Writes self.old self.new) }
         ensures err { OnErr result (Grows self.old.ledger self.new.ledger) }
+        ensures alike { OnOk result (Alike self.old self.new now) }
         ensures turn { IfOk result (Turns now self.old.pairing self.new.pairing) }
     {
         if !self.pairing.is_certain(now, moment) {
@@ -525,6 +538,7 @@ impl<'t> Pass<'t> {
         requires { 0 < length self.old.pairing.afters.items }
         ensures ok { OnOk result (Writes self.old self.new) }
         ensures err { OnErr result (Grows self.old.ledger self.new.ledger) }
+        ensures alike { OnOk result (Alike self.old self.new now) }
         ensures turn { IfOk result (Turns now self.old.pairing self.new.pairing) }
     {
         if !self.pairing.is_certain(now, came_out) {

@@ -3,13 +3,11 @@
 ghost use Rattle.std.specs.Prelude.{◌≤◌};
 ghost use Rattle.std.specs.Option.{ForSome};
 
-use crate::lane::Lane;
 use crate::options::Options;
-use crate::rows::GoneIn;
 use afdx_frame::Stamp;
 use policing::{Account, Policing};
 use transit_policing::{Observed, Policed};
-use vl_config::{CHECK_LENGTH, Class, Link};
+use vl_config::Link;
 
 /// The policing of a link. Without a grace it is an account that begins full, as `watch` keeps
 /// one; with a grace it is what came out that tells what the switch's account may hold.
@@ -79,15 +77,4 @@ impl Policer {
         self.observed = Some(account);
         policed
     }
-}
-
-/// Judges a frame that went in. None: policing doesn't see it.
-pub(crate) fn police(lanes: &mut Vec<Lane>, row: &GoneIn, options: &Options) -> Option<Policed> {
-    if row.head.class != Class::Regular {
-        return None;
-    }
-    let lane = lanes.get_mut(row.head.place)?;
-    let policer = lane.policer.as_mut()?;
-    let size = row.head.whole.saturating_add(CHECK_LENGTH);
-    Some(policer.judge(row.head.moment, size, row.partner.is_some(), options))
 }

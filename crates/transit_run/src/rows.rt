@@ -2,7 +2,7 @@
 
 ghost use Rattle.std.specs.Prelude.{◌≡◌};
 ghost use Rattle.transit_run.specs.Line.{link_number, link_of, sequence_of};
-ghost use Rattle.transit_run.specs.Told.{pair_of};
+ghost use Rattle.transit_run.specs.Told.{is_cut, pair_of};
 
 use crate::outcome::Pair;
 use afdx_frame::VlId;
@@ -24,6 +24,13 @@ pub(crate) struct Head {
 }
 
 impl Head {
+    /// True if some of the frame's bytes aren't recorded.
+    pub(crate) fn is_cut(&self) -> bool
+        ensures { result ≡ is_cut self.now.class }
+    {
+        matches!(self.class, Class::Cut)
+    }
+
     /// The link that the frame names.
     pub(crate) fn link(&self) -> Option<VlId>
         ensures { result ≡ link_of self.now }

@@ -46,6 +46,7 @@ impl LinkState {
         let lane = self.lane_mut(network);
         lane.strange = None;
         lane.strangers = ZERO;
+        lane.forget_still();
         self.note_link(flight, arrival, target)?;
         if early {
             self.note_early(flight, arrival, interval, came.then_some(back))?;
@@ -123,6 +124,7 @@ impl LinkState {
             missing,
             guess: arrival.guess,
             sender: arrival.position > self.head && self.twin_pauses(network, at),
+            anew: arrival.number == 0,
         };
         let target = passage.note(flight, self)?;
         if some {
@@ -315,17 +317,31 @@ impl LinkState {
         let least = self.least_of_both();
         let (_, twin) = self.lanes(network);
         if interval < least || !twin.begun {
-            let _early = self.hit(flight, Kind::Early, Word::Early, network, at)?;
-            return Ok(());
+            return self.hit_early(flight, network, at, interval);
         }
         let Some(back) = back.filter(|back| twin.window.is_early(*back)) else {
             return Ok(());
         };
         let twin_at = twin.window.time(twin.head - back);
         let twin_interval = twin_at - twin.window.time(twin.head - back - 1);
-        let _early = self.hit(flight, Kind::Early, Word::Early, network, at)?;
+        self.hit_early(flight, network, at, interval)?;
         if twin_interval >= least {
-            let _early = self.hit(flight, Kind::Early, Word::Early, network.other(), twin_at)?;
+            self.hit_early(flight, network.other(), twin_at, twin_interval)?;
+        }
+        Ok(())
+    }
+
+    /// Notes a frame that came too early, so long after the one before.
+    fn hit_early(
+        &self,
+        flight: &mut Flight,
+        network: Network,
+        at: Time,
+        interval: Time,
+    ) -> Result<(), AllocError> {
+        let account = self.hit(flight, Kind::Early, Word::Early, network, at)?;
+        if let Some(held) = flight.accounts.get_mut(account) {
+            held.facts.most = held.facts.most.max(self.least_interval() - interval);
         }
         Ok(())
     }

@@ -42,7 +42,8 @@ impl LinkState {
         network: Network,
         held: HeldBack,
     ) -> Result<(), AllocError> {
-        let account = self.strange(flight, Kind::Stray, network, held.own, held.at)?;
+        let kind = self.kind_of_still(flight, network, held.number, (Kind::Stray, held.at))?;
+        let account = self.strange(flight, kind, network, held.own, held.at)?;
         flight
             .accounts
             .hit(account, Sign::on(Word::Stray, network), held.at)?;
@@ -230,7 +231,7 @@ impl LinkState {
         back: Long,
     ) -> Result<bool, AllocError> {
         let (network, at) = (frame.network, frame.at);
-        let (skew_max, half) = (self.skew_max, self.rate.usual() / 2);
+        let (skew_max, soon) = (self.skew_max, self.soon());
         let lane = self.lane_mut(network);
         lane.repeats = lane.repeats.saturating_add(1);
         let since = at - lane.window.time(lane.head - back);
@@ -248,16 +249,43 @@ impl LinkState {
             self.jump_back(flight, network, at)?;
             return Ok(false);
         }
-        let kind = if since < half {
+        let kind = if since < soon {
             Kind::Twice
         } else if back == ZERO {
             Kind::Stuck
         } else {
-            Kind::Old
+            self.kind_of_still(flight, network, frame.number, (Kind::Old, at))?
         };
         let account = self.strange(flight, kind, network, own, at)?;
         self.note_repeat(flight, frame, account, kind, since)?;
         Ok(true)
+    }
+
+    /// A frame so long after one with its number is that one again: half of the interval, or three quarters of
+    /// it where jitter never brings the next frame so soon.
+    fn soon(&self) -> Time {
+        let usual = self.rate.usual();
+        (usual / 2).max((usual * 3 / 4).min(self.least_interval()))
+    }
+
+    /// The kind of a number that doesn't fit, which is of this kind unless so many in a row have it that the
+    /// number stands still. The frames that showed it do so too.
+    fn kind_of_still(
+        &mut self,
+        flight: &mut Flight,
+        network: Network,
+        number: u8,
+        (kind, at): (Kind, Time),
+    ) -> Result<Kind, AllocError> {
+        let run = self.lane_mut(network).note_still(number);
+        if run <= OLD_RUN {
+            return Ok(kind);
+        }
+        if run == OLD_RUN.saturating_add(1) {
+            let still = self.account(flight, Kind::Stuck, network)?;
+            self.move_shown(flight, network, (kind, at), still)?;
+        }
+        Ok(Kind::Stuck)
     }
 
     /// The sender goes on from an old number: the frames that showed it belong to the jump.
@@ -268,16 +296,25 @@ impl LinkState {
         at: Time,
     ) -> Result<(), AllocError> {
         let jump = self.hit(flight, Kind::Jump, Word::Jump, network, at)?;
-        let Some(old) = flight
-            .accounts
-            .find(self.place, Kind::Old, Side::of(network))
-        else {
+        self.move_shown(flight, network, (Kind::Old, at), jump)
+    }
+
+    /// Moves the signs of the latest frames in the lane's account of a kind, which showed what another
+    /// account tells, to that.
+    fn move_shown(
+        &mut self,
+        flight: &mut Flight,
+        network: Network,
+        (kind, at): (Kind, Time),
+        to: Handle,
+    ) -> Result<(), AllocError> {
+        let Some(from) = flight.accounts.find(self.place, kind, Side::of(network)) else {
             return Ok(());
         };
-        for word in [Word::Repeat, Word::Out] {
+        for word in [Word::Repeat, Word::Stray, Word::Out] {
             for _frame in 0..OLD_RUN {
                 let sign = Sign::on(word, network);
-                flight.accounts.transfer(old, jump, sign, at)?;
+                flight.accounts.transfer(from, to, sign, at)?;
             }
         }
         Ok(())
