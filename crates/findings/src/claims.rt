@@ -567,7 +567,8 @@ impl Flight {
         let (Some(outage), Some(reset)) = (outage, reset) else {
             return Ok(());
         };
-        let (Some(pause), Some(anew)) = (self.accounts.span(outage), self.accounts.span(reset)) else {
+        let (Some(pause), Some(anew)) = (self.accounts.span(outage), self.accounts.span(reset))
+        else {
             return Ok(());
         };
         let is_once = self.accounts.sum(outage, Word::Outage) == 1;

@@ -31,7 +31,9 @@ fn note_lines<L: TapSource + Drop>(
                 let start = first.unwrap_or(line.time);
                 first = Some(start);
                 let selected = selection.takes(Stamp(start), &line);
-                let noted = line.link.map_or(Ok(()), |id| neighbours.note_link(id, selected));
+                let noted = line
+                    .link
+                    .map_or(Ok(()), |id| neighbours.note_link(id, selected));
                 noted.map_err(|_| TransitCutFault::Memory)?;
             }
             Ok(TransitFound::End) | Err(TransitFault::NotWhole { .. }) => break,
