@@ -918,6 +918,33 @@ class Check(Case):
             found = answer(flight, {**flight.taps, "B": [(stamp + stamp * ppm // 10**6, data) for stamp, data in flight.taps["B"]]})["questions"]
             self.case(f"check: clocks that drift by {ppm} ppm", "" if [one["question"] for one in found] == ["drift"] else json.dumps(found))
 
+    def test_of_small_steps(self):
+        """A clock that is set by 1 ms while frames are up to 300 us late: that is no drift. One that drifts is asked for."""
+        chance = random.Random(3990)
+        links = [{**link, "period": link["bag_ms"] * MS} for link in ({"id": k, "bag_ms": chance.choice((32, 64, 128))} for k in range(1, 13))]
+        rows = [{"id": one["id"], "name": f"vl_{one['id']}", "bag_ms": one["bag_ms"], "jitter_us": 500, "smax": 200, "integrity": True, "redundancy": True,
+                 "skew_us": 5000} for one in links]
+        config, end = write(os.path.join(self.folder, "t.toml"), toml_of(rows)), 60 * 10**9
+
+        def tap(late, moved):
+            """Each frame is up to 300 us late on each network, and the clock of A goes forward as it is said."""
+            found = []
+            for one in links:
+                first = chance.randrange(30 * MS)
+                found += [(first + k * one["period"], frame(one["id"], 96, k % 255 + 1)) for k in range((end - first) // one["period"])]
+            taps = [[(at + chance.randrange(300_000) + late * n, data) for at, data in found] for n in (0, 1)]
+            return sorted((at + moved(at), data) for at, data in taps[0]), sorted(taps[1])
+
+        for name, moved, wanted in (
+            *((f"is set by 1 ms at {at} s", lambda stamp, at=at: MS if stamp >= at * 10**9 else 0, (["step_a"], [])) for at in (10, 20, 30, 40, 50)),
+            ("drifts by 20 ppm", lambda stamp: stamp // 50_000, (["drift"],)),
+            ("drifts by -30 ppm", lambda stamp: -stamp * 3 // 100_000, (["drift"],)),
+        ):
+            paths = [write(os.path.join(self.folder, f"{n}.pcap"), header() + b"".join(record(START + at, data) for at, data in frames))
+                     for n, frames in zip("ab", tap(200_000, moved))]
+            found = json.loads(asked("--config", config, "--a", paths[0], "--b", paths[1], "--json").stdout)["questions"]
+            self.case(f"check: the clock of A {name}", "" if [one["question"] for one in found] in wanted else json.dumps(found))
+
     def test_of_holes(self):
         """Zeros and noise within a file: what ends the recording isn't a time."""
         links = [{"id": 5, "name": "brake", "bag_ms": 1, "jitter_us": 0, "smax": 200, "integrity": False, "redundancy": False, "skew_us": 0}]

@@ -322,6 +322,15 @@ class Findings(Case):
         found = [fault for _, fault in side_by_side(work, [seeds[i : i + share] for i in range(0, count, share)]) if fault]
         self.case(f"findings: {count} {name}", f"{len(found)} are wrong\n" + "\n".join(found[:4]) if found else "")
 
+    def test_apart(self):
+        """Of networks that count apart it is told by how much B's numbers are greater."""
+        rows = {row[0]: row for row in FIXED}
+        for name, greater in (("the numbers on A are 50 greater", 205), ("the numbers on B are 80 greater", 80), ("the numbers on B are -70 greater", 185)):
+            with tempfile.TemporaryDirectory() as folder:
+                texts = [one["text"] for one in told(*fixed_flight(rows[name])[0].write(folder)[0]).findings if one["kind"] == "apart"]
+            fits = len(texts) == 1 and f"(B's number is A's and {greater})" in texts[0]
+            self.case(f"findings: {name}", "" if fits else f"{texts}")
+
     def test_sound(self):
         self.many("sound flights have nothing to tell", sound_flights, SOUND, 5)
 

@@ -65,6 +65,11 @@ def seen_values(frames, bag, both):
     return found
 
 
+def told_values(frames, seen):
+    """What is told of the frames: the jitter is that of the BAG that is told."""
+    return {**seen, "jitter_us": estimate(frames)["jitter_us"]} if "jitter_us" in seen else seen
+
+
 def stand(key, specified, seen):
     if specified == seen:
         return "same"
@@ -101,8 +106,11 @@ def link_text(link, row, frames, a, b, counts):
     text += listed("Not in the ICD, but seen", [key for key in KEYS if key not in row and key in seen])
     text += listed("Neither in the ICD nor seen", [key for key in KEYS if key not in row and key not in seen])
     stands = {key: stand(key, row[key], seen[key]) for key in KEYS if key in row and key in seen}
+    told = told_values(frames, seen)
+    if stands.get("jitter_us") == "same" and told["jitter_us"] != row["jitter_us"]:
+        stands["jitter_us"] = stands["bag_ms"]
     for how in ("beyond", "within"):
-        text += listed(f"Seen {how} the ICD", [f"{key} {str(seen[key]).lower()}" for key in KEYS if stands.get(key) == how])
+        text += listed(f"Seen {how} the ICD", [f"{key} {str(told[key]).lower()}" for key in KEYS if stands.get(key) == how])
     if "beyond" in stands.values():
         counts["beyond"] += 1
     elif "within" in stands.values():
@@ -355,6 +363,20 @@ class Icd(Case):
         single = header() + record(START, frame(10, 80, 1))
         self.drafts("one frame", written([exact[10]]), [exact[10]], single, header())
         self.drafts("no frame", written([exact[10]]), [exact[10]], header(), None)
+
+    def test_together(self):
+        """Frames each 64 ms, 0 to 300 us late, of a link that is specified with a BAG of 32 ms: the comment's BAG and jitter hold together."""
+        lates = [300_000, 0, 150_000, 300_000, 20_000] * 40
+        path, icd = os.path.join(self.folder, "a.pcap"), os.path.join(self.folder, "icd.csv")
+        with open(path, "wb") as file:
+            file.write(header() + b"".join(record(START + k * 64 * MS + late, frame(102, 96, k % 255 + 1)) for k, late in enumerate(lates)))
+        for jitter in (500, 300, 0):
+            with open(icd, "w", encoding="utf-8") as file:
+                file.write(f"id,bag_ms,jitter_us,smax,integrity\n102,32,{jitter},100,true\n")
+            text = run(["links", "--icd", icd, "--a", path], stdout=subprocess.PIPE).stdout.decode()
+            wanted = "# Seen within the ICD: bag_ms 64" + (", jitter_us 300" if jitter != 300 else "")
+            found = [line for line in text.splitlines() if line.startswith("# Seen")]
+            self.case(f"icd: the jitter of the BAG that was seen, {jitter} us specified", "" if found and found[0].startswith(wanted) and len(found) == 1 else str(found))
 
     def test_refused(self):
         """Documents that are refused, and the first thing that is wrong with each."""

@@ -78,6 +78,9 @@ FIXED = (
       flight in ((3, FAST), (6, FAST), (20, MANY))),
     *((f"{links} links pause and begin anew", senders.restart_group, {"links": links}, flight) for links,
       flight in ((3, FAST), (6, FAST), (12, MANY))),
+    *((f"all senders are off for {size // 1000000} ms", senders.power_cycle, {"size": size}, flight)
+      for size, flight in ((1_000_000_000, FAST), (5_000_000_000, FAST), (2_000_000_000, MANY), (5_000_000_000, {"links": 3}))),
+    ("a link pauses and begins anew", senders.restart, {}),
     ("a sender begins anew", senders.reset, {"times": 1}),
     ("a sender begins anew three times", senders.reset, {"times": 3}),
     *((f"a sender begins anew with {frames} frames that are lost on {n}", senders.reset_lost, {"n": n, "frames": frames})
@@ -118,6 +121,9 @@ FIXED = (
     *((f"{frames} strange frames on {n}", senders.strays, {"n": n, "frames": frames}) for n, frames in (("A", 1), ("B", 12))),
     *((f"{frames} frames come again on {n}", senders.replayed, {"n": n, "frames": frames}) for n, frames in (("A", 1), ("B", 12))),
     *((f"a number stands still for {frames} frames", senders.stuck, {"frames": frames}) for frames in (1, 3, 10, 100)),
+    *((f"a number falls back by {back} and stands still", senders.frozen, {"back": back}) for back in (1, 2, 10, 40, 63, 64, 100)),
+    *((f"frames on {n} come twice, far apart", senders.twice_later, {"n": n}, {"jitter": 0}) for n in ("A", "B")),
+    *((f"all frames of a link cut short on {n}", senders.cut_whole, {"n": n}) for n in ("A", "B")),
     *((f"the last byte on {n} is no number", senders.no_number, {"n": n}) for n in ("A", "B", "AB")),
     *((f"numbers jump by {size}", senders.jump, {"size": size}) for size in (30, 100, 120, -80, -100)),
     *((f"a sender skips {size} numbers {times} times", senders.skipped, {"size": size, "times": times}) for size,

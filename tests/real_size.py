@@ -6,6 +6,7 @@ import hashlib
 import json
 import os
 import re
+import resource
 import subprocess
 
 from tests.analyser import watch
@@ -19,6 +20,8 @@ START = 1_800_000_000 * 10**9
 OUTSIDE = 6
 # With the widest window for late timestamps: frames within a second wait for each other.
 WIDE = f"late_us = 1000000\n{TABLE}"
+# How many files a run may have open: its streams, inputs and outputs, and what the system needs.
+FEW_FILES = 16
 
 
 def listed(desk, option, paths):
@@ -51,6 +54,26 @@ class RealSize(AtADesk):
             self.case(f"real size: watch, {count} files", fault or self.desk.compared("ledger", expected.lines + expected.summary))
             ran = run(["cut", "--ledger", self.desk.paths["ledger"], *listed(self.desk, "a", paths)], stdin=subprocess.DEVNULL, stdout=subprocess.PIPE)
             self.case(f"real size: cut, {count} files", difference(ran, SUCCESS, "", expected.capture))
+
+    def test_open_files(self, count=200):
+        """One file of each recording is open at a time, however many there are."""
+        packets = [(START + i * 10**5, frame(OUTSIDE, 60, i % 255 + 1)) for i in range(count)]
+        lists = [word for option in "ab" for word in listed(self.desk, option, lay(self.desk.directory, f"open_{option}", [tap(one) for one in packets]))]
+        expected = watch(TABLE, EVERY, tap(*packets), tap(*packets))
+        self.desk.lay(config=TABLE, filter=EVERY)
+        ledger, config = self.desk.paths["ledger"], ["--config", self.desk.paths["config"]]
+        few = {"preexec_fn": lambda: resource.setrlimit(resource.RLIMIT_NOFILE, (FEW_FILES, FEW_FILES)), "stdin": subprocess.DEVNULL, "stdout": subprocess.PIPE}
+        ran = run(["watch", *config, "--filter", self.desk.paths["filter"], *lists, "--capture", self.desk.paths["capture"], "--ledger", ledger], **few)
+        fault = difference(ran, SUCCESS, "", b"") or self.desk.compared("capture", expected.capture) or self.desk.compared("ledger", expected.lines + expected.summary)
+        self.case(f"real size: watch, {count} files of each network and {FEW_FILES} open ones", fault)
+        put(ledger, expected.lines + expected.summary)
+        ran = run(["cut", "--ledger", ledger, *lists], **few)
+        self.case(f"real size: cut, {count} files of each network and {FEW_FILES} open ones", difference(ran, SUCCESS, "", expected.capture))
+        ports = [{"--a": "--before", "--b": "--after"}.get(word, word) for word in lists]
+        for name, words in (("check", ["check", *config, *lists]), ("links", ["links", *lists]), ("transit", ["transit", *config, *ports])):
+            ran = run(words, **few)
+            refused = ran.returncode not in (SUCCESS, FAULT) or b"afdxmon: file" in ran.stderr or b"Read" in ran.stderr
+            self.case(f"real size: {name}, {count} files of each side and {FEW_FILES} open ones", f"status {ran.returncode}, {ran.stderr!r}" if refused else "")
 
     def test_digests(self):
         """Each file of a recording has its own bytes and its own digest in the manifest."""

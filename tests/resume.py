@@ -98,6 +98,21 @@ class Resume(Case):
         self.case("the same ledger", "" if outputs == expected else "another ledger")
         self.judge("the same notes", with_option, without.returncode, without.stderr.decode().rstrip("\n"))
 
+    def test_without_header(self):
+        """A file that ends within its header ends the recording: no note says that the run goes on."""
+        chance = random.Random(8)
+        a, b = sent(chance), pcap(sent(chance), "<", 1)
+        parts = pieces(chance, a, 3)
+        for held in (1, 10, 23):
+            files = [pcap(parts[0], "<", 1), pcap(parts[1], "<", 1)[:held], pcap(parts[2], "<", 1)]
+            paths, of_b = self.laid("headless", files), self.laid("b", [b])
+            manifest = os.path.join(self.folder, "run.json")
+            ran, (ledger, _) = self.watch(paths, of_b, "--resume-after-cut", "--manifest", manifest)
+            ended = f"tap A bad {len(parts[0])} nextfile" in ledger.decode().splitlines()
+            lists = json.loads(read(manifest))["inputs"]["a"]["torn"]
+            told = [line for line in ran.stderr.decode().splitlines() if "goes on" in line]
+            self.case(f"{held} bytes of a header", "" if ended and not lists and not told else f"{ended}, {lists}, {told}: {ran.args}")
+
     def test_without_option(self):
         """Without the option a torn file ends the recording, as it always did."""
         chance = random.Random(6)
@@ -239,6 +254,19 @@ class TornFlight(Case):
     def test_transit(self):
         words = ["transit", "--config", self.table]
         self.same("transit", words, ["--before", *self.a, "--after", *self.b], ["--before", *self.clean, "--after", *self.b], "--json")
+
+    def test_transit_cut(self):
+        """By a ledger of transits: the frames of the torn files' whole packets, and none without the option."""
+        ledger, sides = self.path("transit.ledger"), ["--before", *self.a, "--after", *self.b]
+        run(["transit", "--config", self.table, "--before", *self.clean, "--after", *self.b, "--ledger", ledger], stdout=subprocess.PIPE)
+        words = ["cut", "--ledger", ledger, "-o", "-"]
+        for more in ((), ("--verdict", "new"), ("--link", "9", "--pcapng")):
+            self.same(f"cut by transits {' '.join(more)}", words, sides, ["--before", *self.clean, "--after", *self.b], *more)
+        whole = sorted([one for part in self.whole for one in part] + list(periodic(late=100_000)), key=lambda one: one[0])
+        ran = run([*words, *sides, "--resume-after-cut"], stdout=subprocess.PIPE)
+        self.case("cut by transits, each frame", "" if ran.stdout == pcap(whole, "<", 1) else f"{len(ran.stdout)} bytes; the command: {ran.args}")
+        ran = run([*words, *sides], stdout=subprocess.PIPE)
+        self.judge("cut by transits without the option", ran, 1, lambda text: text.startswith("afdxmon: cut 3 Absent at "))
 
     def test_first_packet(self):
         """A file whose first packet is noise is no file out of order."""

@@ -85,6 +85,35 @@ def restart_group(world, links=None):
     return plant.want("outage", "AB", ids(senders), signs=signs, single=True, start=(START + f - slack, START + f + slack))
 
 
+def power_cycle(world, size=None):
+    """All senders are off for a while, and begin anew with number 0."""
+    senders = world.take(len(world.flight.senders), lambda s: s.both and s.way == "periodic")
+    f, t = world.zone
+    size = size or 12 * max(sender.period for sender in senders)
+    if 2 * size > t - f:
+        raise Unfit
+    f += (t - f - size) // 2
+    for sender in senders:
+        places = sender.places(f, f + size)
+        renumber(sender, places)
+        begin_anew(sender, [places[0]])
+    slack = 2 * max(sender.period for sender in senders)
+    plant = Plant(f"all senders are off for {size // 1000000} ms and begin anew").count("outage", len(senders))
+    signs = {"outage": len(senders), "reset.A": len(senders), "reset.B": len(senders)}
+    return plant.want("outage", "AB", ids(senders), signs=signs, single=True, start=(START + f - slack, START + f + slack))
+
+
+def restart(world):
+    """A link pauses, and begins anew with number 0."""
+    sender = world.take(1, lambda s: s.both and world.quiet(s) and s.way == "periodic" and len(inner(world, s)) >= 40)[0]
+    room = inner(world, sender)
+    begin = room[len(room) // 2]
+    renumber(sender, range(begin, begin + 12))
+    begin_anew(sender, [begin])
+    plant = Plant(f"link {sender.id} pauses and begins anew at frame {begin}").count("outage", 1)
+    return plant.want("outage", ("A", "B", "AB"), [sender.id], count=1, signs={"outage": 1, "reset.A": 1, "reset.B": 1}, single=True)
+
+
 def begin_anew(sender, places):
     """The sender's numbers begin with 0 at these places."""
     marks = sorted(places)
@@ -584,6 +613,36 @@ def stuck(world, frames=None):
     return plant.want("stuck", "AB", [sender.id], count=(frames, 2 * frames), signs={"repeat.A": frames, "repeat.B": frames}, single=True)
 
 
+def frozen(world, back=None):
+    """A sender's number falls back by so many, and stands still there to the end."""
+    sender = world.take(1, lambda s: s.both and s.way == "periodic" and world.quiet(s) and len(inner(world, s)) >= 300)[0]
+    begin, back = inner(world, sender)[150], back or world.chance.randrange(1, 120)
+    frames = {n: 0 for n in sender.networks}
+    for n in sender.networks:
+        for frame in sender.lanes[n]:
+            if frame.place > begin:
+                frame.number = number_of(sender.first, begin - back)
+                frames[n] += 1
+    plant = Plant(f"the number of link {sender.id} falls back by {back} and stands still")
+    for n in sender.networks:
+        for word in ("repeat", "stray", "late"):
+            plant.count(f"{word}.{n}", 0, frames[n])
+    return plant.want("stuck", "AB", [sender.id], count=(frames["A"], frames["A"] + frames["B"]), single=True)
+
+
+def twice_later(world, n=None):
+    """Each frame of a link comes twice on a network, the second time after six tenths of its interval."""
+    n = n or world.network()
+    sender = world.take(1, lambda s: s.both and s.way == "periodic" and world.quiet(s) and len(inner(world, s)) >= 40)[0]
+    number = repeat(world, sender, n, inner(world, sender), lambda frame: frame.stamp + sender.period * 6 // 10)
+    plant = Plant(f"{number} frames of link {sender.id} come twice on {n}, {sender.period * 6 // 10} ns apart")
+    plant.count(f"repeat.{n}", number)
+    for word in ("late.A", "late.B", f"early.{n}", f"excess.{n}"):
+        plant.count(word, 0, number)
+    plant.allow(("bunched",), [sender.id])
+    return plant.want("twice", n, [sender.id], count=number, signs={f"repeat.{n}": number})
+
+
 def no_number(world, n=None):
     """The last byte of a link's frames is always the same, on one network or on both."""
     n = n or world.chance.choice(("A", "B", "AB"))
@@ -668,6 +727,18 @@ def cut(world, n=None, links=None, frames=None):
     plant = Plant(f"{sum(numbers)} frames of links {ids(senders)[:9]} on {n} are cut short")
     signs = note_losses(plant, n, senders, numbers)
     return plant.want("cut", n, count=sum(numbers), signs={**signs, f"cut.{n}": sum(numbers)}, single=True)
+
+
+def cut_whole(world, n=None):
+    """All frames of a link on a network are cut short by its recorder."""
+    n = n or world.network()
+    sender = world.take(1, lambda s: s.both and s.way == "periodic")[0]
+    for frame in sender.lanes[n]:
+        frame.held = frame.size - 8
+    number = len(sender.lanes[n])
+    plant = Plant(f"all {number} frames of link {sender.id} on {n} are cut short").count(f"alone.{OTHER[n]}", 0, number)
+    plant.count(f"unrecorded.{n}", 0, number)
+    return plant.want("cut", n, count=number, single=True)
 
 
 def strange(world, kind, n=None, frames=None):

@@ -263,6 +263,72 @@ class Questions(Transit):
         fault = "" if asked[0].get("question") == "drift" and near and ran.returncode == FAULT else f"{asked} {ran.stderr!r}"
         self.case("a clock that drifts by 20 us a second", fault and f"{fault}; the command: {command_of(ran)}")
 
+    def test_step(self):
+        """The clock of the port out is set at a moment, or the switch holds all frames from then on. That is no drift."""
+        before, after = plain_flight(count=30000, start=0)
+        for size in (200 * US, MS, 5 * MS, -900 * US):
+            for at in (8 * SECOND, 15 * SECOND, 20 * SECOND, 25 * SECOND):
+                late = pcap(sorted((out + (size if went >= at else 0), data) for (went, data), (out, _) in zip(before, after)))
+                ran, answer = self.answer(PLAIN, pcap(before), late)
+                asked = answer.get("questions") or [{}]
+                told = asked[0].get("question") == "step" and len(asked) == 1 and ran.returncode == FAULT
+                close = told and abs(asked[0]["nanoseconds"] - size) <= 20 * US and int(asked[0]["from"]) < START + at <= int(asked[0]["to"])
+                way, told_size = ("falls" if size < 0 else "rises"), abs(asked[0].get("nanoseconds", 0)) // US
+                wanted = f"did a clock step, or the load or path change? The least latency {way} by {told_size}."
+                close = close and asked[0]["text"].startswith(wanted) and f" us at {at // SECOND} s. " in asked[0]["text"]
+                self.case(f"a step of {size / MS} ms at {at // SECOND} s", "" if close else f"{asked}; the command: {command_of(ran)}")
+
+    def test_no_step(self):
+        """What is neither a drift nor a step: a queue for a time, a step for two seconds alone, and a clock that is set again and again."""
+        before, after = plain_flight(count=30000, start=0)
+        for name, late in (
+            ("a queue from 10 s to 20 s", lambda at: 500 * US if 10 * SECOND <= at < 20 * SECOND else 0),
+            ("a step at 28.5 s", lambda at: 500 * US if at >= 28 * SECOND + 500 * MS else 0),
+            ("a clock that is set each five seconds", lambda at: at % (5 * SECOND) // 5000),
+            ("a step of 60 us", lambda at: 60 * US if at >= 15 * SECOND else 0),
+        ):
+            shifted = pcap(sorted((out + late(went), data) for (went, data), (out, _) in zip(before, after)))
+            ran, answer = self.answer(PLAIN, pcap(before), shifted)
+            asked = [one["question"] for one in answer.get("questions", [{"question": "none"}])]
+            self.case(f"neither drift nor step: {name}", f"{asked}; the command: {command_of(ran)}" if asked else "")
+
+    def test_early(self):
+        """A clock that is set back by more than the window: it begins too late, and the advice is the option that takes all frames."""
+        before, after = plain_flight(count=10000, start=0)
+        for size in (5 * MS, 20 * MS):
+            back = pcap(sorted((out - (size if went >= 5 * SECOND else 0), data) for (went, data), (out, _) in zip(before, after)))
+            ran, answer = self.answer(PLAIN, pcap(before), back)
+            text = " ".join(one["text"] for one in answer.get("questions", []))
+            given = re.search(r"Give --early-us (\d+)", text)
+            fault = "" if given and size <= int(given[1]) * US <= 4 * size else text
+            _, mended = self.answer(PLAIN, pcap(before), back, "--early-us", given[1] if given else "1000")
+            left = mended["total"]["dropped"] + mended["total"]["new"]
+            fault = fault or (f"{left} frames have no partner" if left else "")
+            self.case(f"a clock that is set back by {size // MS} ms", fault and f"{fault}; the command: {command_of(ran)}")
+
+
+class Bars(Transit):
+    """The rows of the transits, by the borders that they show: a transit of a border's length is in the row that begins there."""
+
+    def rows(self, name, transits):
+        count = len(transits)
+        before = [(SECOND + index * 20 * MS, frame(index % 2 + 1, 100, index // 2 % 255 + 1)) for index in range(count)]
+        before = [(at, data[:14] + index.to_bytes(4, "big") + data[18:]) for index, (at, data) in enumerate(before)]
+        after = sorted((at + transit, data) for (at, data), transit in zip(before, transits))
+        ran = self.transit(table([(1, 8, 0), (2, 8, 0)]), pcap(before), pcap(after))
+        told = {(int(low), int(high)): int(found) for low, high, found in re.findall(r"^ +(\d+) to +(\d+) us +(\d+)", ran.stdout.decode(), re.M)}
+        wrong = {row: found for row, found in told.items() if found != sum(row[0] * US <= one < row[1] * US for one in transits)}
+        fault = f"{wrong} of {told}" if wrong or sum(told.values()) != count else ""
+        self.case(name, fault and f"{fault}; the command: {command_of(ran)}")
+
+    def test_borders(self):
+        for border in (one * 10**power for power in range(3) for one in (1, 2, 5)):
+            self.rows(f"all of {border * 10} us", [border * 10 * US] * 60)
+            around = [border * 10 * US + off for off in (-300, -1, 0, 1, 300) for _ in range(12)]
+            self.rows(f"around {border * 10} us", around)
+        self.rows("of the first transits above 50 us", [50_000 + index for index in range(200)])
+        self.rows("just above and below 100 us", [60_000] * 100 + [100_300])
+
 
 def slow_frames(after):
     """The frames of a flight of which a hundred in the middle come out 30 ms later."""

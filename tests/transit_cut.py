@@ -7,6 +7,7 @@ import os
 import struct
 
 from tests.annotated import head, packet
+from tests.cut import nearby
 from tests.harness import FAULT, SUCCESS, USAGE, Case, difference, header, put, read, record, run
 from tests.transit import Transit, options_of, pcap, table
 from tests.transit_flights import BOUND, START, transit_flight
@@ -119,6 +120,45 @@ class TransitCut(Transit):
             packets = packets_of([fields for fields in lines if takes(fields)], before, after)
             self.judge(name, self.cut(*options), SUCCESS, "" if packets else NO_LINE, pcap_of(packets))
 
+    def test_around(self):
+        """Lines near those that are selected, by link, as often as the options say."""
+        for seed in (8, 18):
+            self.flight(seed)
+            lines, (before, after) = frame_lines(self.text), self.frames()
+            links, middle = [fields[3] for fields in lines], lines[len(lines) // 2][0]
+            for name, options, takes in (
+                ("faults", ("--verdict", "faults"), lambda fields: fields[7] in FAULTS),
+                ("dropped", ("--verdict", "dropped"), lambda fields: fields[7] == "dropped"),
+                ("not in the table", ("--verdict", "unrouted,elsewhere"), lambda fields: fields[7] in ("unrouted", "elsewhere")),
+                ("a link to a moment", ("--link", "2", "--to", middle), lambda fields: fields[3] == "2" and int(fields[0]) <= int(middle)),
+                ("all", (), lambda fields: True),
+                ("none", ("--link", "65535"), lambda fields: False),
+            ):
+                for around in (0, 1, 2, 3, 65535):
+                    near = nearby(links, [takes(fields) for fields in lines], min(around, len(lines)))
+                    packets = packets_of([fields for fields, one in zip(lines, near) if one], before, after)
+                    self.judge(f"{name}, --around {around}", self.cut(*options, "--around", str(around)), SUCCESS,
+                               "" if packets else NO_LINE, pcap_of(packets))
+        words = ["cut", "--ledger", "-", "--before", self.before, "--after", self.after, "--around", "1"]
+        self.judge("--around by a pipe", run(words, stdout=-1, input=self.text), FAULT, "afdxmon: cut 8 Selection around at 0", b"")
+        for text in ("65536", "-1", ""):
+            self.case(f"--around {text!r}", difference(self.cut(f"--around={text}"), USAGE, lambda told: "--around" in told, b""))
+
+    def test_around_in_torn_ledgers(self):
+        """Each ledger is read as far as it goes, or to its first wrong line."""
+        self.flight(19)
+        lines, (before, after) = self.text.split(b"\n"), self.frames()
+        for kept in range(2, 12):
+            text = b"\n".join(lines[:kept]) + b"\n"
+            fields = frame_lines(text)
+            near = nearby([one[3] for one in fields], [one[7] in FAULTS for one in fields], 2)
+            ran = self.cut("--verdict", "faults", "--around", "2", ledger=put(self.folder, "torn.ledger", text))
+            taken = pcap_of(packets_of([one for one, is_near in zip(fields, near) if is_near], before, after))
+            self.case(f"{kept} lines", difference(ran, SUCCESS, lambda told: "afdxmon: note: " in told, taken))
+            damaged = put(self.folder, "damaged.ledger", text + b"odd\n")
+            ran = self.cut("--verdict", "faults", "--around", "2", ledger=damaged)
+            self.case(f"a wrong line after {kept}", difference(ran, FAULT, lambda told, at=kept + 1: f"cut 1 Ledger at {at} " in told, b""))
+
     def test_one_recording(self):
         """A recording that isn't given has no frames in the capture."""
         self.flight(9)
@@ -216,10 +256,10 @@ class TransitCut(Transit):
 
     def test_bad_use(self):
         self.flight(17)
-        of_watch = "--a, --b, --network, --filters, --around and --ledger-only are for ledgers of watch"
+        of_watch = "--a, --b, --network, --filters and --ledger-only are for ledgers of watch"
         for name, options, text in (
             ("--a", ("--a", self.before), of_watch), ("--network", ("--network", "A"), of_watch),
-            ("--filters", ("--filters", "1"), of_watch), ("--around", ("--around", "1"), of_watch),
+            ("--filters", ("--filters", "1"), of_watch),
             ("--ledger-only", ("--ledger-only",), of_watch),
             ("two ends", ("--to", "+1", "--span", "1s"), "--to and --span both end the span of time"),
         ):
