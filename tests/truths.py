@@ -133,6 +133,7 @@ def accounting(told, lines=None):
     if levels != told.levels:
         faults.append(f"levels are {told.levels}, by the findings {levels}")
     faults += [f"{n} signs {word}" for word, n in told.signs.items() if n < 0]
+    faults += [f"a finding counts 0: {one['text']}" for one in told.findings if not one["count"]]
     for word, number in (lines or {}).items():
         if told.signs.get(word, 0) != number:
             faults.append(f"{told.signs.get(word, 0)} signs {word}, but {number} lines of the ledger")
